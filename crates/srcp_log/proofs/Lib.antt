@@ -1,7 +1,7 @@
 pub mod AcceptsAreAsked
 pub mod NumbersDiffer
 pub mod SocketsStayStanding
-pub mod ThePeer
+pub mod NumbersNamePeers
 pub mod WaitsHaveReasons
 pub mod WaitsKeepSockets
 pub mod AcceptsKeepSockets

@@ -1,4 +1,4 @@
-pub mod QueueLaws
+pub mod RangesGrowAndShrink
 pub mod StatesFollowSteps
 pub mod PeersRestByAccount
 pub mod UnreadPeersAreRead

@@ -3,7 +3,7 @@ use Rattle.std.specs.Prelude.{slice_range}
 use Rattle.std.proofs.Math.Seq.{take-length}
 use Rattle.std.proofs.lemmas.List.{with_items_is}
 use borrow.Rule.Slice.PartMut.{same_len_mid}
-use Rattle.srcp_peers.proofs.QueueLaws.{followed_by}
+use Rattle.srcp_peers.proofs.RangesGrowAndShrink.{followed_by}
 use Rattle.srcp_peers.proofs.queue.put.Goals as goal
 
 pub returns-clause-put : goal.returns-clause-put

@@ -1,5 +1,5 @@
 use Rattle.std.proofs.Common.{◌≡◌, ◌-◌, length, ap, sym, drop, ◌∙◌, arith}
-use Rattle.srcp_peers.proofs.QueueLaws.{begins_later, range_length}
+use Rattle.srcp_peers.proofs.RangesGrowAndShrink.{begins_later, range_length}
 use Rattle.srcp_peers.proofs.queue.Queue.drop_front.Goals as goal
 
 pub returns-else-self : goal.returns-else-self

@@ -2,7 +2,7 @@ use Rattle.std.proofs.Common.{rules, ◌≡◌, ◌++◌, ◌-◌, ◌+◌, ap, 
 use Rattle.std.specs.Prelude.{slice_range}
 use Rattle.std.proofs.lemmas.List.{append-nil, with_items_is}
 use borrow.Rule.Slice.PartMut.{put_mid, same_len_mid}
-use Rattle.srcp_peers.proofs.QueueLaws.{range_length, read_behind}
+use Rattle.srcp_peers.proofs.RangesGrowAndShrink.{range_length, read_behind}
 use Rattle.srcp_peers.proofs.queue.Queue.read_from.Goals as goal
 use Rattle.srcp_peers.specs.declared.queue.TheConstants.{MOST_INCOMING}
 

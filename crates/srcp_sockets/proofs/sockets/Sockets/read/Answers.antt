@@ -19,7 +19,7 @@ use Rattle.srcp_peers.specs.declared.stay.Stay.TheVariants as stay
 use Rattle.srcp_log.specs.Endings.{ending_of, is_as_far}
 use Rattle.srcp_log.specs.Work.{AreFrom, goes_behind}
 use Rattle.srcp_log.proofs.EndsAreTold.{far_goes, set_one, slackens_step}
-use Rattle.srcp_log.proofs.ThePeer.{the_changed, the_one}
+use Rattle.srcp_log.proofs.NumbersNamePeers.{the_changed, the_one}
 use Rattle.srcp_log.proofs.PeersAreFrom.{from_same, from_set}
 use Rattle.srcp_log.proofs.SharesAreWhole.{stays_short}
 use Rattle.srcp_peers.specs.declared.turn.Turn.{Turn}

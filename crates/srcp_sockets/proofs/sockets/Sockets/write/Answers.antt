@@ -13,7 +13,7 @@ use Rattle.srcp_log.proofs.SocketsLingerAndClose.{stands_unwritten}
 use Rattle.srcp_log.proofs.SocketsStayStanding.{stands_one}
 use Rattle.srcp_log.proofs.TimesGoOn.{timed_write}
 use Rattle.srcp_log.proofs.EndsAreTold.{far_same, far_wrote}
-use Rattle.srcp_log.proofs.ThePeer.{the_one}
+use Rattle.srcp_log.proofs.NumbersNamePeers.{the_one}
 use Rattle.srcp_log.proofs.PeersAreFrom.{from_same, from_set, share_stays}
 use Rattle.srcp_sockets.proofs.sockets.Sockets.write.Goals as goal
 
