@@ -21,7 +21,6 @@ pub mod StepsKeepWhole
 pub mod RegistryStaysWhole
 pub mod SentLinesAreOneList
 pub mod NothingAfterTheEnd
-pub mod RoomAfterRoom
 pub mod RoomsAddUp
 pub mod OverrunAt256
 pub mod EventsKeep

@@ -7,6 +7,7 @@ use Rattle.srcp_serve.proofs.Names.{happens, rows, history, all_numbered, eqb-fa
 use Rattle.srcp_serve.proofs.Names.{IsPlain}
 use Rattle.srcp_info.specs.Line.{reply_line}
 use Rattle.srcp_core.proofs.CourseLaws.NothingAfterTheEnd.{numbered_other, numbered_push}
+use Rattle.srcp_core.proofs.CourseLaws.SessionsOfACourse.{at_number}
 
 -- it was given no line unless it is an information session, which no command of its own ends, and no more was taken of it
 -- than it was given
@@ -27,13 +28,6 @@ pub record IsGrown (c d : Connection) : Type 0 where
   pub taken : d.taken ≡ c.taken
   pub more : List ℕ
   pub out : d.out ≡ c.out ++ more
-
-pub steady_at : (n : ℕ) (conns : List Connection) (conn : Connection) → numbered n conns ≡ Some conn → AllByRecursion IsSteady conns
-    → IsSteady conn
-steady_at zero conns conn e a = cc
-steady_at (suc n) [] conn e a = cc
-steady_at (suc zero) (c ∷ conns) conn e a = subst IsSteady (same_Some c conn e) a.0
-steady_at (suc (suc n)) (c ∷ conns) conn e a = steady_at (suc n) conns conn e a.1
 
 sent_with : (n : ℕ) (f : Connection → Connection) (conns : List Connection)
     → ((conn : Connection) → numbered n conns ≡ Some conn → IsSteady conn → sent (f conn) ≡ sent conn) → AllByRecursion IsSteady conns
@@ -87,7 +81,7 @@ module _ (buses : List Bus) (n : ℕ) (texts : List (List ℕ)) where
       sending_with n f texts w.connections (λ conn e. grown_sent conn (f conn) (grows conn) (quiet conn e).0 (quiet conn e).1)
 
   plain_quiet : (w : World) → IsPlain n w → Sends w → IsQuiet w
-  plain_quiet w plain a conn e = ((steady_at n w.connections conn e a.steady).plain (plain conn e).0, (plain conn e).2)
+  plain_quiet w plain a conn e = ((at_number IsSteady n w.connections conn a.steady e).plain (plain conn e).0, (plain conn e).2)
 
   sending_answered : IsAnswered buses n Sends
   sending_answered = record {

@@ -8,7 +8,9 @@ use Rattle.srcp_serve.proofs.Names.{same_Some, AllByRecursion, Event, Open, Byte
 use Rattle.srcp_serve.proofs.Names.{open_connection, at_connection, counted, or_refused, happens, course, history, rows}
 use Rattle.srcp_serve.proofs.Names.{NoSuch, owed_plain, numbered_with, fitting_none, took_within, all_numbered, all_push, lent, and-false}
 use Rattle.srcp_serve.proofs.Names.{cond_both, is_none, opened}
-use Rattle.srcp_serve.proofs.OnlyRoomSends.{IsSteady, IsSending, event_keeps, sending_bytes, sending_shut, steady_at}
+use Rattle.srcp_core.proofs.CourseLaws.LinesHaveBytes.{AreFull, owed_full}
+use Rattle.srcp_core.proofs.CourseLaws.SessionsOfACourse.{at_number}
+use Rattle.srcp_serve.proofs.OnlyRoomSends.{IsSteady, IsSending, event_keeps, sending_bytes, sending_shut}
 use Rattle.srcp_serve.proofs.CallsByTurnAndPeer.{fold_keeps}
 use Rattle.srcp_serve.proofs.Stream.{put, put_none, put_with}
 
@@ -26,18 +28,16 @@ lent_text left got taken nexts = drop (now_taken left taken nexts 0) (now_given 
 -- if something is unsent, room for no more than that gives nothing new
 pub fits_left : (bytes byte : ℕ) (left : List ℕ) (nexts : List Next) → bytes ≤ length (byte ∷ left) → fitting bytes (byte ∷ left) nexts ≡ []
 fits_left bytes byte left nexts h =
-    let none : bytes - length (byte ∷ left) ≡ 0 = omega arith in
-    rw (and-false, none) refl
+    let none : max bytes 1 - length (byte ∷ left) ≡ 0 = omega arith in
+    rw none refl
 
 -- room for no more than the next line gives that line
-pub first_some : (bytes : ℕ) (what : Next) (nexts : List Next) → 0 < bytes → bytes ≤ length (line_of what)
+pub first_some : (bytes : ℕ) (what : Next) (nexts : List Next) → 0 < length (line_of what) → bytes ≤ length (line_of what)
     → fitting bytes [] (what ∷ nexts) ≡ what ∷ []
-first_some zero what nexts some h = absurd (omega arith)
-first_some (suc bytes) what nexts some h =
-    let positive : (suc bytes == 0) ≡ false = grind (arith, nat_tests) in
-    let whole : suc bytes - 0 ≡ suc bytes = omega arith in
-    let none : suc bytes - length (line_of what) ≡ 0 = omega arith in
-    rw (positive, whole) (ap (λ n. what ∷ prefix n nexts) none)
+first_some bytes what nexts full h =
+    let asked : max bytes 1 - 0 ≡ suc (bytes - 1) = omega arith in
+    let none : suc (bytes - 1) - length (line_of what) ≡ 0 = omega (arith, full, h) in
+    rw asked (ap (λ n. what ∷ prefix n nexts) none)
 
 taken_none : (left : List ℕ) (taken : ℕ) (nexts : List Next) → now_taken left taken nexts 0 ≡ taken
 taken_none left taken nexts = simp (zero-min, add-zero)
@@ -49,33 +49,33 @@ takes_none left got taken nexts within = simp (taken_none, take-append-le, appen
 no_bytes : (bytes : ℕ) (text : List ℕ) → text ≡ [] → bytes ≤ length text → 0 ≡ bytes
 no_bytes bytes text e h = let none = ap length e in omega (arith, none, h)
 
-takes_by : (left got : List ℕ) (taken : ℕ) (nexts : List Next) (bytes : ℕ) → drop taken got ≡ left → taken ≤ length got
-    → bytes ≤ length (lent_text left got taken nexts)
+takes_by : (left got : List ℕ) (taken : ℕ) (nexts : List Next) (bytes : ℕ) → AreFull nexts → drop taken got ≡ left
+    → taken ≤ length got → bytes ≤ length (lent_text left got taken nexts)
     → take (now_taken left taken nexts bytes) (now_given left got nexts bytes)
     ≡ take taken got ++ take bytes (lent_text left got taken nexts)
-takes_by (byte ∷ left) got taken nexts bytes e within h =
+takes_by (byte ∷ left) got taken nexts bytes full e within h =
     let all : List ℕ = byte ∷ left in
     let none : fitting 0 all nexts ≡ [] = fits_left 0 byte left nexts (omega arith) in
     let lent : lent_text all got taken nexts ≡ all = cc (taken_none all taken nexts, append-nil got) in
     let inside : bytes ≤ length all = rw lent at h in
     let size : bytes ≤ length (available all nexts) = omega (arith, inside, length-append all (flat_map line_of nexts)) in
     cc (min-eq_left size, fits_left bytes byte left nexts inside, append-nil got, take-add taken bytes got)
-takes_by [] got taken [] bytes e within h =
+takes_by [] got taken [] bytes full e within h =
     let lent : lent_text [] got taken [] ≡ [] = simp (taken_none, append-nil, e) in
     rw (sym (no_bytes bytes _ lent h)) (takes_none [] got taken [] within)
-takes_by [] got taken (what ∷ nexts) zero e within h = takes_none [] got taken (what ∷ nexts) within
-takes_by [] got taken (what ∷ nexts) (suc bytes) e within h =
+takes_by [] got taken (what ∷ nexts) bytes full e within h =
     let text : List ℕ = line_of what in
-    let full : length got ≡ taken = omega (arith, within, length-drop taken got, ap length e) in
+    let whole : length got ≡ taken = omega (arith, within, length-drop taken got, ap length e) in
     let joined : got ++ (text ++ []) ≡ got ++ text = ap (λ l. got ++ l) (append-nil text) in
-    let behind : drop taken (got ++ (text ++ [])) ≡ text = cc (drop_at got text taken full) in
-    let lent : lent_text [] got taken (what ∷ nexts) ≡ text = cc (taken_none [] taken (what ∷ nexts)) in
-    let inside : suc bytes ≤ length text = rw lent at h in
-    let size : suc bytes ≤ length (available [] (what ∷ nexts)) = omega (arith, inside, length-append text (flat_map line_of nexts)) in
+    let behind : drop taken (got ++ (text ++ [])) ≡ text = cc (drop_at got text taken whole) in
+    let lent : lent_text [] got taken (what ∷ nexts) ≡ text =
+    cc (taken_none [] taken (what ∷ nexts), first_some 0 what nexts full.0 (omega arith)) in
+    let inside : bytes ≤ length text = rw lent at h in
+    let size : bytes ≤ length (available [] (what ∷ nexts)) = omega (arith, inside, length-append text (flat_map line_of nexts)) in
     cc (
       min-eq_left size,
-      first_some (suc bytes) what nexts (omega arith) inside,
-      take-add taken (suc bytes) (got ++ (text ++ [])),
+      first_some bytes what nexts full.0 inside,
+      take-add taken bytes (got ++ (text ++ [])),
       take-append-le taken got (text ++ []) within,
     )
 
@@ -105,7 +105,11 @@ sends_lent history rows conn bytes over within h =
     let lent : unsent (given_room 0 history rows conn) ≡ lent_text (unsent conn) (given conn) conn.taken nexts =
     cc (room 0, given_more conn steps 0 nexts) in
     let inside : bytes ≤ length (lent_text (unsent conn) (given conn) conn.taken nexts) = rw lent at h in
-    cc (room bytes, given_more conn steps bytes nexts, takes_by (unsent conn) (given conn) conn.taken nexts bytes refl within inside)
+    cc (
+      room bytes,
+      given_more conn steps bytes nexts,
+      takes_by (unsent conn) (given conn) conn.taken nexts bytes (owed_full conn history rows) refl within inside,
+    )
 
 -- ---- what a connection lends and its peer then takes is what the course says was sent
 
@@ -180,7 +184,7 @@ module _ (buses : List Bus) where
           let shown = rows buses w in
           let is = lent_is events n conn e in
           let there = (opened _ conn e).0 in
-          let steady = steady_at n _ conn there a.steady in
+          let steady = at_number IsSteady n _ conn a.steady there in
           let one : sent (given_room bytes past shown conn) ≡ sent conn ++ take bytes (lent buses n events) =
           cc (conn_sends past shown conn bytes (overran conn past) (overran (given_room 0 past shown conn) past) refl refl steady.within
           (rw is at h)) in

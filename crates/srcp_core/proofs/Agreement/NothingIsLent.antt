@@ -1,5 +1,5 @@
 -- Where nothing is lent of a connection.
-use Rattle.srcp_core.proofs.Names.{◌≡◌, ℕ, ◌+◌, ◌-◌, ◌<◌, Bool, true, false, List, [], ◌∷◌, ◌++◌, length, take, refl, ap, sym, ◌∙◌, arith}
+use Rattle.srcp_core.proofs.Names.{◌≡◌, ℕ, ◌+◌, ◌-◌, Bool, true, false, List, [], ◌∷◌, ◌++◌, length, refl, ap, sym, ◌∙◌, arith}
 use Rattle.srcp_core.proofs.Names.{append-nil, length-append, length-drop, le-leb, lt-leb, fold-append, flat_map, option_map_or, nat_le}
 use Rattle.srcp_core.proofs.Names.{not, ◌&&◌, ◌||◌, if◌then◌else◌, Some, None, Bus, IsLayout, Event, Room, OfConnection, lent, Connection}
 use Rattle.srcp_core.proofs.Names.{fitting, given, given_room, is_nil, is_open, is_settled, line_of, overran, owed, text, took, unsent}
@@ -9,9 +9,9 @@ use Rattle.std.specs.Prelude.{option_map}
 use Rattle.srcp_feed.specs.declared.Next.{Next}
 use Rattle.srcp_core.specs.Agrees.{lends_none}
 use Rattle.srcp_core.proofs.Agreement.AnswersAgree.{lends_agrees}
-use Rattle.srcp_core.proofs.CourseLaws.RoomAfterRoom.{left_after}
+use Rattle.srcp_core.proofs.CourseLaws.RoomInTwoParts.{left_after}
 use Rattle.srcp_core.proofs.CourseLaws.RoomsAddUp.{rooms_add_up, takes_within, shut_after}
-use Rattle.srcp_core.proofs.CourseLaws.LinesHaveBytes.{AreFull, owed_full}
+use Rattle.srcp_core.proofs.CourseLaws.LinesHaveBytes.{first_nil, owed_full}
 use Rattle.srcp_core.proofs.Agreement.NumbersAndKeys.{numbered_with}
 use Rattle.srcp_core.proofs.CourseLaws.RoomSettles.{sends_replies}
 use Rattle.srcp_core.proofs.Agreement.StandsAfterAChange.{found_at}
@@ -25,15 +25,6 @@ abbrev lends_none_of : List Bus → World → Connection → Bool
 lends_none_of buses w conn =
     overran conn (history buses w)
     || (nat_le (length conn.out) conn.taken && (not conn.info || is_settled conn (history buses w) (rows buses w)))
-
-some_bytes : (xs ys : List ℕ) → 0 < length xs → is_nil (xs ++ ys) ≡ false
-some_bytes [] ys h = absurd (omega (arith, h))
-some_bytes (x ∷ xs) ys h = refl
-
--- the next line is empty only where there is none
-next_nil : (nexts : List Next) → AreFull nexts → is_nil (flat_map line_of (take 1 nexts)) ≡ is_nil nexts
-next_nil [] full = refl
-next_nil (what ∷ nexts) full = some_bytes _ [] full.0
 
 -- where no item was given, replies are left exactly where bytes are
 replies_left : (conn : Connection) (byte : ℕ) (bytes : List ℕ) → conn.items ≡ [] → unsent conn ≡ byte ∷ bytes
@@ -81,7 +72,7 @@ module _ (buses : List Bus) (w : World) (conn : Connection) (up : is_open conn �
   none_left : unsent conn ≡ [] → Rests
   none_left u =
       let rest : is_nil nexts ≡ (not conn.info || settled) = ⊎_elim (λ i. cc) (λ i. cc) (cases_Bool conn.info) in
-      cc (next_nil nexts (owed_full conn (history buses w) (rows buses w)), rest, replies_taken conn u)
+      cc (first_nil nexts (owed_full conn (history buses w) (rows buses w)), rest, replies_taken conn u)
 
   rests : (conn.info ≡ false → conn.items ≡ []) → Rests
   rests plain = by _ refl

@@ -1,15 +1,15 @@
 -- Bytes that go out: the line that is put in, and the bytes that are taken, by the course.
 use Rattle.srcp_core.proofs.Names.{◌≡◌, ℕ, suc, ◌-◌, ◌≤◌, Bool, true, false, List, [], ◌∷◌, ◌++◌, map, take, drop, length, refl}
 use Rattle.srcp_core.proofs.Names.{ap, sym, ◌∙◌, subst, arith, append-nil, append_assoc, le-leb, le-ltb, nat_tests, drop-append-le}
-use Rattle.srcp_core.proofs.Names.{take-append-le, and-false, le_refl, flat_map, option_or, Option, Some, None, ◌&&◌, ◌||◌, nat_lt, IfSome}
+use Rattle.srcp_core.proofs.Names.{take-append-le, and-false, le_refl, flat_map, option_or, Option, Some, None, ◌&&◌, nat_lt, IfSome}
 use Rattle.srcp_core.proofs.Names.{if◌then◌else◌, Change, Cursor, Done, Shown, Mode, Reading, beyond, moved, Next, Told}
 use Rattle.srcp_core.proofs.Names.{Listed, Settled, key_at, IsRisingBy, Connection, History, cursor_at, untold, unsent, sent, given}
 use Rattle.srcp_core.proofs.Names.{line_of, is_nil, owed, prefix, fitting, exhausts, items_of, took, given_room, overran, Place}
 use Rattle.srcp_core.proofs.Names.{filled, item_from, feed_in, Listening, record_of, place_of, ConnRecord}
 use Rattle.srcp_feed.specs.Feed.{first_of}
 use Rattle.srcp_core.specs.Recording.{with_item}
-use Rattle.srcp_core.proofs.CourseLaws.RoomInTwoParts.{parts_same}
-use Rattle.srcp_core.proofs.CourseLaws.RoomAfterRoom.{none_taken}
+use Rattle.srcp_core.proofs.CourseLaws.LinesHaveBytes.{AreFull, exhausts_none, fitting_first, owed_full}
+use Rattle.srcp_core.proofs.CourseLaws.RoomInTwoParts.{none_taken, parts_same}
 use Rattle.srcp_core.proofs.CourseLaws.RoomsAddUp.{owed_plain}
 use Rattle.srcp_core.proofs.CourseLaws.Histories.{rows_after, cursor_by}
 use Rattle.srcp_core.proofs.Agreement.PlacesChange.{plain_place, plain_is, is_over_place, untold_shut}
@@ -47,28 +47,31 @@ with_given steps (Some Settled) told = told
 took_still : (n : ℕ) (nexts : List Next) (conn : Connection) (byte : ℕ) (bytes : List ℕ) → unsent conn ≡ byte ∷ bytes
     → took 0 n nexts conn ≡ conn
 took_still n nexts conn byte bytes e =
-    parts_same conn (ap (λ left. conn.items ++ items_of n (fitting 0 left nexts)) e ∙ none _ refl) (none_taken _ _)
+    parts_same conn
+    (ap (λ left. conn.items ++ items_of n (fitting 0 left nexts)) e
+    ∙ ap (λ m. conn.items ++ items_of n (prefix m nexts)) none ∙ append-nil _)
+    (none_taken _ _)
     (ap (λ left. if conn.info && exhausts 0 left nexts then option_or conn.done (Some n) else conn.done) e
     ∙ ap (λ t. if conn.info && t then option_or conn.done (Some n) else conn.done) not_yet
     ∙ ap (λ t. if t then option_or conn.done (Some n) else conn.done) (and-false conn.info))
   where
-    none : (k : ℕ) → k ≡ 0 - length (byte ∷ bytes) → conn.items ++ items_of n (prefix (0 - length (byte ∷ bytes)) nexts) ≡ conn.items
-    none k e =
-        let z : 0 - length (byte ∷ bytes) ≡ 0 = omega arith in cc (append-nil _)
+    none : 1 - length (byte ∷ bytes) ≡ 0
+    none = omega arith
 
     not_yet : exhausts 0 (byte ∷ bytes) nexts ≡ false
-    not_yet = ap (λ t. t || false) (le-ltb _ 0 (omega arith))
+    not_yet = le-ltb _ 1 (omega arith)
 
 -- where nothing is unsent the first of what is owed is put in
-took_one : (n : ℕ) (nexts : List Next) (conn : Connection) → unsent conn ≡ [] → took 0 n nexts conn ≡ record conn {
+took_one : (n : ℕ) (nexts : List Next) (conn : Connection) → AreFull nexts → unsent conn ≡ [] → took 0 n nexts conn ≡ record conn {
   items = conn.items ++ items_of n (take 1 nexts);
   done = if conn.info && is_nil nexts then option_or conn.done (Some n) else conn.done;
 }
-took_one n nexts conn e =
-    parts_same conn (ap (λ left. conn.items ++ items_of n (fitting 0 left nexts)) e) (none_taken _ _)
+took_one n nexts conn full e =
+    parts_same conn
+    (ap (λ left. conn.items ++ items_of n (fitting 0 left nexts)) e ∙ ap (λ ns. conn.items ++ items_of n ns) (fitting_first nexts full))
+    (none_taken _ _)
     (ap (λ left. if conn.info && exhausts 0 left nexts then option_or conn.done (Some n) else conn.done) e
-    ∙ ap (λ t. if conn.info && (t || is_nil nexts) then option_or conn.done (Some n) else conn.done)
-    (le-ltb _ 0 (omega arith)))
+    ∙ ap (λ t. if conn.info && t then option_or conn.done (Some n) else conn.done) (exhausts_none nexts full))
 
 -- what is unsent and what was sent once more was given
 unsent_more : (conn : Connection) (n : ℕ) (nexts : List Next) (end : Option ℕ) → conn.taken ≤ length (given conn)
@@ -172,7 +175,7 @@ module _ (first : List Shown) (history : History) (conn : Connection) (shut : co
       let nexts : List Next = map Told _ ++ map Listed _ in
       let later : Connection = after nexts in
       let is : took 0 n (owed conn history rows_now) conn ≡ later =
-      took_one n (owed conn history rows_now) conn e ∙ ap after (owed_is info) in
+      took_one n (owed conn history rows_now) conn (owed_full conn history rows_now) e ∙ ap after (owed_is info) in
       let g = gave_one info e _ refl _ refl in
       rw is (record {
         place =

@@ -1,9 +1,9 @@
 -- Room for bytes, as many takings of what is unsent, each after the next line is put in.
-use Rattle.srcp_core.proofs.Names.{cond_both, ◌≡◌, ℕ, zero, suc, min, ◌+◌, ◌-◌, ◌<◌, ◌≤◌, false, List, [], ◌∷◌, ◌++◌, take}
+use Rattle.srcp_core.proofs.Names.{cond_both, ◌≡◌, ℕ, zero, suc, min, ◌+◌, ◌-◌, ◌<◌, ◌≤◌, false, List, [], ◌∷◌, ◌++◌, take, max}
 use Rattle.srcp_core.proofs.Names.{drop, length, length-append, refl, ap, sym, ◌∙◌, subst, arith, append-nil, le-ltb, drop-drop, length-map}
-use Rattle.srcp_core.proofs.Names.{flat_map, option_map, option_or, Option, Some, None, ◌&&◌, ◌||◌, ◌==◌, nat_lt, if◌then◌else◌, Shown}
+use Rattle.srcp_core.proofs.Names.{flat_map, option_map, option_or, Option, Some, None, ◌&&◌, nat_lt, if◌then◌else◌, Shown}
 use Rattle.srcp_core.proofs.Names.{Reading, Bus, IsLayout, opening, shown_rows, Next, Told, Listed, Settled, key_at, IsRisingBy, Connection}
-use Rattle.srcp_core.proofs.Names.{History, unsent, sent, given, line_of, is_nil, is_open, owed, prefix, available, items_of, given_room}
+use Rattle.srcp_core.proofs.Names.{History, unsent, sent, given, line_of, is_open, owed, prefix, available, items_of, given_room}
 use Rattle.srcp_core.proofs.Names.{overran, World, numbered, at_connection, history, rows, Place, Held, AddsUp, item_from, item_of, item_at}
 use Rattle.srcp_core.proofs.Names.{let_out, without_sent, changed_at, changed_in, unsent_at, feed_in, Recording, key_of, record_of, gave}
 use Rattle.srcp_core.proofs.Names.{StandsFor, place_of, and-false, cases_Bool, ⊎_elim, nil_from_length}
@@ -23,7 +23,6 @@ use Rattle.srcp_core.proofs.CourseLaws.SessionsOfACourse.{at_number, fits_open}
 use Rattle.srcp_core.proofs.Agreement.NumbersAndKeys.{numbered_with, with_itself, with_twice}
 use Rattle.srcp_core.proofs.Agreement.StandsAfterAChange.{Anything, Fine, found_at}
 use Rattle.srcp_core.proofs.CourseLaws.SessionsAreKept.{sound_at, stands_room, in_order_after}
-use Rattle.srcp_core.proofs.CourseLaws.RoomGivesWhatIsOwed.{pos-eqb}
 use Rattle.std.proofs.Math.Seq.{take-nil}
 use Rattle.std.proofs.lemmas.Bool.{false_from_ne_true}
 
@@ -44,24 +43,14 @@ room_unsent : (count : ℕ) (history : History) (rows : List Shown) (conn : Conn
     → count ≤ length (unsent conn) → given_room count history rows conn ≡ with_taken count conn
 room_unsent count history rows conn still some few =
     let size = length-append (unsent conn) (flat_map line_of (owed conn history rows)) in
-    let none_left : count - length (unsent conn) ≡ 0 = omega (arith, few) in
-    let enough : nat_lt (length (available (unsent conn) (owed conn history rows))) count ≡ false =
-    le-ltb _ count (omega (arith, size, few)) in
+    let none_left : max count 1 - length (unsent conn) ≡ 0 = omega (arith, some, few) in
+    let enough : nat_lt (length (available (unsent conn) (owed conn history rows))) (max count 1) ≡ false =
+    le-ltb _ (max count 1) (omega (arith, size, some, few)) in
     ap (λ t. if t then conn else took count (length history) (owed conn history rows) conn) still
     ∙ parts_same conn
-    (ap (λ t. conn.items
-    ++ items_of (length history)
-    (if t && is_nil (unsent conn) then take 1 (owed conn history rows)
-    else prefix (count - length (unsent conn)) (owed conn history rows)))
-    (pos-eqb count some)
-    ∙ ap (λ m. conn.items ++ items_of (length history) (prefix m (owed conn history rows))) none_left ∙ append-nil _)
+    (ap (λ m. conn.items ++ items_of (length history) (prefix m (owed conn history rows))) none_left ∙ append-nil _)
     (omega (arith, size, few))
-    (ap (λ t. if conn.info && (t || ((count == 0) && (is_nil (unsent conn) && is_nil (owed conn history rows))))
-    then option_or conn.done (Some (length history)) else conn.done)
-    enough
-    ∙ ap (λ t. if conn.info && (t && (is_nil (unsent conn) && is_nil (owed conn history rows)))
-    then option_or conn.done (Some (length history)) else conn.done)
-    (pos-eqb count some)
+    (ap (λ t. if conn.info && t then option_or conn.done (Some (length history)) else conn.done) enough
     ∙ ap (λ t. if t then option_or conn.done (Some (length history)) else conn.done) (and-false conn.info))
 
 taken_place : (reader : Reading) (history : History) (conn : Connection) (count : ℕ) → is_over_place history conn ≡ false

@@ -19,7 +19,7 @@ use Rattle.srcp_core.specs.Waits.{brought_besides, completed, due_and_freed, may
 use Rattle.srcp_grammar.specs.Weight.{weight}
 use Rattle.srcp_rules.proofs.WeightLaws.{line_weighs, go_weighs_one}
 use Rattle.srcp_rules.proofs.EachStepLaws.{effect_law}
-use Rattle.srcp_core.proofs.CourseLaws.ShownRegistry.{length_history}
+use Rattle.srcp_core.proofs.CourseLaws.ShownRegistry.{history_append, length_history}
 use Rattle.srcp_core.proofs.CourseLaws.WaitsGrow.{few_close_none}
 use Rattle.srcp_core.proofs.Invariants.LinesAsk.{acts_law}
 
@@ -47,10 +47,6 @@ in_history s (step ∷ steps) =
     (flat_map (λ (changes : List Change). changes) (history_from (stepped s step) steps)) in
     let these = length-map (updates_of s step) (λ (update : Update). update.change) in
     omega arith
-
-history-append : (s : State) (xs ys : List Step) → history_from s (xs ++ ys) ≡ history_from s xs ++ history_from (state_after s xs) ys
-history-append s [] ys = refl
-history-append s (x ∷ xs) ys = cc (history-append (stepped s x) xs ys)
 
 -- ---- GO
 
@@ -251,7 +247,7 @@ module _ (buses : List Bus) where
         told : drop (length w.steps) (history buses later) ≡ history_from (state buses w) c.steps
         told = cc (
           longer,
-          history-append (opening buses 0) w.steps c.steps,
+          history_append (opening buses 0) w.steps c.steps,
           length_history (opening buses 0) w.steps,
           drop-append_seam (history buses w) (history_from (state buses w) c.steps),
         )

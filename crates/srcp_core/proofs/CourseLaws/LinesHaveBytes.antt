@@ -1,8 +1,10 @@
 -- Each line that is owed has bytes, and so room for all of them gives them all.
-use Rattle.srcp_core.proofs.Names.{◌≡◌, ℕ, zero, suc, ◌+◌, ◌-◌, ◌<◌, ◌≤◌, Bool, true, false, List, [], ◌∷◌, ◌++◌, map, take, length, refl}
-use Rattle.srcp_core.proofs.Names.{ap, arith, append-nil, length-append, and_parts, eqb-true, AllByRecursion, flat_map, ◌==◌, ◌&&◌}
-use Rattle.srcp_core.proofs.Names.{if◌then◌else◌, codes, line, Change, Put, Shown, beyond, Connection, History, available, cursor_at}
-use Rattle.srcp_core.proofs.Names.{fitting, prefix, is_nil, is_open, line_of, owed, untold, cond_both}
+use Rattle.srcp_core.proofs.Names.{◌≡◌, ℕ, zero, suc, ◌+◌, ◌-◌, ◌<◌, ◌≤◌, false, List, [], ◌∷◌, ◌++◌, map, take, length, refl}
+use Rattle.srcp_core.proofs.Names.{ap, arith, length-append, AllByRecursion, flat_map, ◌==◌, ◌&&◌, max}
+use Rattle.srcp_core.proofs.Names.{codes, line, Change, Put, Shown, beyond, Connection, History, available, cursor_at, ◌||◌}
+use Rattle.srcp_core.proofs.Names.{fitting, prefix, is_nil, is_open, line_of, owed, untold, cond_both, exhausts, le-ltb, nat_lt, nat_tests}
+use Rattle.srcp_core.proofs.Names.{sym}
+use Rattle.std.proofs.Math.Bool.{or-false}
 use Rattle.std.specs.List.{join_with_byte}
 use Rattle.srcp_info.specs.Line.{change_words}
 use Rattle.srcp_feed.specs.declared.Next.{Next}
@@ -31,14 +33,36 @@ owed_full conn history rows =
     (map Told (untold conn history) ++ map Listed (beyond (cursor_at conn (length history)) rows)) [] AreFull
     (λ _. told_full (untold conn history) _ (listed_full (beyond (cursor_at conn (length history)) rows))) (λ _. tt)
 
--- where the first has none, there is no line
-pub first_empty : (nexts : List Next) → AreFull nexts → flat_map line_of (take 1 nexts) ≡ [] → nexts ≡ []
-first_empty [] a e = refl
-first_empty (what ∷ nexts) a e =
-    let full = a.0 in
-    let none : length (line_of what ++ []) ≡ 0 = cc in
-    let same = ap length (append-nil (line_of what)) in
-    absurd (omega arith)
+-- a room for none where nothing is unsent is given the first line, which has bytes, and exhausts what has none
+pub fitting_first : (nexts : List Next) → AreFull nexts → fitting 0 [] nexts ≡ take 1 nexts
+fitting_first [] full = refl
+fitting_first (what ∷ nexts) full =
+    let none : 1 - length (line_of what) ≡ 0 = omega (arith, full.0) in ap (λ bytes. what ∷ prefix bytes nexts) none
+
+some_bytes : (xs ys : List ℕ) → 0 < length xs → is_nil (xs ++ ys) ≡ false
+some_bytes [] ys h = absurd (omega (arith, h))
+some_bytes (x ∷ xs) ys h = refl
+
+pub first_nil : (nexts : List Next) → AreFull nexts → is_nil (flat_map line_of (fitting 0 [] nexts)) ≡ is_nil nexts
+first_nil [] full = refl
+first_nil (what ∷ nexts) full = some_bytes (line_of what) _ full.0
+
+pub exhausts_none : (nexts : List Next) → AreFull nexts → exhausts 0 [] nexts ≡ is_nil nexts
+exhausts_none [] full = refl
+exhausts_none (what ∷ nexts) full =
+    le-ltb (length (flat_map line_of (what ∷ nexts))) 1 (omega (arith, full.0, length-append (line_of what) (flat_map line_of nexts)))
+
+-- a room exhausts what has fewer bytes than it is for, or what has none
+pub exhausts_by : (bytes : ℕ) (left : List ℕ) (nexts : List Next) → AreFull nexts
+    → exhausts bytes left nexts ≡ (nat_lt (length (available left nexts)) bytes || ((bytes == 0) && (is_nil left && is_nil nexts)))
+exhausts_by zero [] nexts full = rw (le-ltb (length (flat_map line_of nexts)) 0 (omega arith)) (exhausts_none nexts full)
+exhausts_by zero (byte ∷ left) nexts full =
+    rw (le-ltb (length (byte ∷ (left ++ flat_map line_of nexts))) 0 (omega arith))
+    (le-ltb (length (byte ∷ (left ++ flat_map line_of nexts))) 1 (omega arith))
+exhausts_by (suc bytes) left nexts full =
+    let same : max (suc bytes) 1 ≡ suc bytes = omega arith in
+    let some : (suc bytes == 0) ≡ false = grind (arith, nat_tests) in
+    rw (same, some) (sym (or-false (nat_lt (length (available left nexts)) (suc bytes))))
 
 -- room for as many bytes as there are
 prefix_full : (bytes : ℕ) (nexts : List Next) → AreFull nexts → length (flat_map line_of nexts) ≤ bytes → prefix bytes nexts ≡ nexts
@@ -53,25 +77,10 @@ prefix_full (suc bytes) (what ∷ nexts) full h =
     let k : length (flat_map line_of nexts) ≤ suc bytes - length (line_of what) = omega arith in
     cc (prefix_full (suc bytes - length (line_of what)) nexts full.1 k)
 
-first_full : (nexts : List Next) → AreFull nexts → length (flat_map line_of nexts) ≤ 0 → take 1 nexts ≡ nexts
-first_full [] full h = refl
-first_full (what ∷ nexts) full h =
-    let some = full.0 in
-    let e = length-append (line_of what) (flat_map line_of nexts) in
-    absurd (omega arith)
-
 pub fitting_full : (bytes : ℕ) (left : List ℕ) (nexts : List Next) → AreFull nexts → length (available left nexts) ≤ bytes
     → fitting bytes left nexts ≡ nexts
-fitting_full bytes left nexts full h = by _ refl
-  where
-    size : length (available left nexts) ≡ length left + length (flat_map line_of nexts)
-    size = length-append left _
-
-    by : (t : Bool) → (bytes == 0) && is_nil left ≡ t → (if t then take 1 nexts else prefix (bytes - length left) nexts) ≡ nexts
-    by true t =
-        let none : bytes ≡ 0 = eqb-true bytes 0 (and_parts _ _ t).0 in
-        first_full nexts full (omega (arith, size, none, h))
-    by false t = prefix_full _ nexts full (omega (arith, size, h))
+fitting_full bytes left nexts full h =
+    prefix_full (max bytes 1 - length left) nexts full (omega (arith, h, length-append left (flat_map line_of nexts)))
 
 -- where the prefix is all, nothing is left
 pub none_after : (all nexts rest : List Next) → all ≡ nexts ++ rest → nexts ≡ all → rest ≡ []

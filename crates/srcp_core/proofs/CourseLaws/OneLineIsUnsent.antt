@@ -1,15 +1,14 @@
 -- Once the replies of a connection are all taken, what is unsent of it is the end of the line that it was given last.
 use Rattle.srcp_core.proofs.Names.{cond_both, ◌≡◌, ◌⊎◌, inl, inr, ⊎_elim, ℕ, zero, suc, ◌+◌, ◌-◌, ◌<◌, ◌≤◌, Bool, true, false, List, []}
-use Rattle.srcp_core.proofs.Names.{◌∷◌, ◌++◌, length, take, drop, refl, ap, sym, ◌∙◌, arith, append-nil, append_assoc, length-append}
-use Rattle.srcp_core.proofs.Names.{length-drop, and_parts, ltb-false, ltb-true, take-append-drop, flat_map-append, flat_map, nat_lt, ◌==◌}
-use Rattle.srcp_core.proofs.Names.{◌&&◌, Some, if◌then◌else◌, Bus, Next, Connection, available, fitting, prefix, given, given_room, is_nil}
+use Rattle.srcp_core.proofs.Names.{◌∷◌, ◌++◌, length, take, drop, refl, ap, sym, ◌∙◌, arith, append-nil, append_assoc, length-append, max}
+use Rattle.srcp_core.proofs.Names.{length-drop, take-append-drop, flat_map-append, flat_map}
+use Rattle.srcp_core.proofs.Names.{◌&&◌, Some, if◌then◌else◌, Bus, Next, Connection, available, fitting, prefix, given, given_room}
 use Rattle.srcp_core.proofs.Names.{items_of, line_of, owed, text, took, unsent, World, at_connection, course, entered, fresh, history}
 use Rattle.srcp_core.proofs.Names.{numbered, rows, start, last_line, Event, Item}
 use Rattle.std.proofs.Math.Seq.{drop-append-add}
 use Rattle.srcp_core.specs.Laws.{IsSuffixOf}
 use Rattle.srcp_core.proofs.CourseLaws.EventsKeep.{IsKept, IsPlain, kept_all, numbered_after, numbered_more}
 use Rattle.srcp_core.proofs.CourseLaws.RoomGivesWhatIsOwed.{fitting_prefix, fitting_none, text_items}
-use Rattle.srcp_core.proofs.CourseLaws.SessionsOfACourse.{nil_is}
 use Rattle.srcp_core.proofs.Agreement.NumbersAndKeys.{no_connection}
 
 -- ---- the last line
@@ -35,9 +34,14 @@ last_items n [] what (next ∷ nexts) = last_items n [] next nexts
 last_items n (item ∷ []) what nexts = last_items n [] what nexts
 last_items n (item ∷ next ∷ items) what nexts = last_items n (next ∷ items) what nexts
 
--- of a prefix the last line alone goes beyond the bytes that were asked for
+-- only for some bytes there are lines
+asked : (bytes : ℕ) (nexts : List Next) (what : Next) (more : List Next) → prefix bytes nexts ≡ what ∷ more → 0 < bytes
+asked zero nexts what more e = cc
+asked (suc bytes) nexts what more e = omega arith
+
+-- of a prefix the last line alone goes beyond the last byte that was asked for
 prefix_near : (bytes : ℕ) (nexts : List Next)
-    → length (flat_map line_of (prefix bytes nexts)) ≤ bytes + length (last_of (prefix bytes nexts))
+    → length (flat_map line_of (prefix bytes nexts)) ≤ bytes - 1 + length (last_of (prefix bytes nexts))
 prefix_near zero nexts = omega arith
 prefix_near (suc bytes) [] = omega arith
 prefix_near (suc bytes) (what ∷ nexts) = by _ refl (prefix_near left nexts)
@@ -45,22 +49,13 @@ prefix_near (suc bytes) (what ∷ nexts) = by _ refl (prefix_near left nexts)
     left : ℕ
     left = suc bytes - length (line_of what)
 
-    by : (inner : List Next) → prefix left nexts ≡ inner → length (flat_map line_of inner) ≤ left + length (last_of inner)
-        → length (flat_map line_of (what ∷ inner)) ≤ suc bytes + length (last_of (what ∷ inner))
+    by : (inner : List Next) → prefix left nexts ≡ inner → length (flat_map line_of inner) ≤ left - 1 + length (last_of inner)
+        → length (flat_map line_of (what ∷ inner)) ≤ suc bytes - 1 + length (last_of (what ∷ inner))
     by [] e ih = let size = length-append (line_of what) [] in omega arith
-    by (next ∷ more) e ih = short _ refl
-      where
-        short : (t : Bool) → nat_lt (suc bytes) (length (line_of what)) ≡ t
-            → length (flat_map line_of (what ∷ next ∷ more)) ≤ suc bytes + length (last_of (next ∷ more))
-        short false t =
-            let low = ltb-false (suc bytes) (length (line_of what)) t in
-            let size = length-append (line_of what) (flat_map line_of (next ∷ more)) in
-            omega arith
-        short true t =
-            let high = ltb-true _ _ t in
-            let none : left ≡ 0 = omega arith in
-            let bad : prefix 0 nexts ≡ next ∷ more = cc in
-            cc
+    by (next ∷ more) e ih =
+        let some = asked left nexts next more e in
+        let size = length-append (line_of what) (flat_map line_of (next ∷ more)) in
+        omega arith
 
 -- ---- one connection
 
@@ -89,56 +84,16 @@ module _ (n bytes : ℕ) (nexts : List Next) (conn : Connection) where
 
   -- where some lines are given
   few_given : (what : Next) (more : List Next) → fits ≡ what ∷ more → IsFew later
-  few_given what more e = by _ refl
-    where
-      left : length (unsent conn) ≡ length (given conn) - conn.taken
-      left = length-drop _ _
-
-      room : ℕ
-      room = bytes - length (unsent conn)
-
-      is : (t : Bool) → ((bytes == 0) && is_nil (unsent conn)) ≡ t → fits ≡ (if t then take 1 nexts else prefix room nexts)
-      is t e = cc
-
-      last : length (last_line later.items) ≡ length (last_of fits)
-      last = cc (last_items n conn.items what more)
-
-      all : length (flat_map line_of fits) ≤ length (flat_map line_of nexts)
-      all =
-          let f = fitting_prefix bytes (unsent conn) nexts in
-          let whole = ap (λ (ns : List Next). length (flat_map line_of ns)) f.whole ∙ ap length (flat_map-append line_of fits f.rest)
-          ∙ length-append (flat_map line_of fits) (flat_map line_of f.rest) in
-          omega arith
-
-      sum : length (available (unsent conn) nexts) ≡ length (unsent conn) + length (flat_map line_of nexts)
-      sum = length-append _ _
-
-      one : (ns : List Next) → length (flat_map line_of (take 1 ns)) ≤ length (last_of (take 1 ns))
-      one [] = omega arith
-      one (next ∷ ns) = let l = length-append (line_of next) [] in omega arith
-
-      by : (t : Bool) → ((bytes == 0) && is_nil (unsent conn)) ≡ t → IsFew later
-      by true t =
-          let none : length (unsent conn) ≡ 0 = ap length (nil_is _ (and_parts _ _ t).1) in
-          let near : length (flat_map line_of fits) ≤ length (last_of fits) = rw (is true t) (one nexts) in
-          let a = size in
-          let b = left in
-          let c = last in
-          omega arith
-      by false t =
-          let near : length (flat_map line_of fits) ≤ room + length (last_of fits) =
-          rw (is false t) (prefix_near room nexts) in
-          let some : 0 < room = asked room (sym (is false t) ∙ e) in
-          let a = size in
-          let b = left in
-          let c = last in
-          let d = all in
-          let f = sum in
-          omega arith
-        where
-          asked : (k : ℕ) → prefix k nexts ≡ what ∷ more → 0 < k
-          asked zero e = cc
-          asked (suc k) e = omega arith
+  few_given what more e =
+      let f = fitting_prefix bytes (unsent conn) nexts in
+      let whole = ap (λ (ns : List Next). length (flat_map line_of ns)) f.whole ∙ ap length (flat_map-append line_of fits f.rest)
+      ∙ length-append (flat_map line_of fits) (flat_map line_of f.rest) in
+      let left : length (unsent conn) ≡ length (given conn) - conn.taken = length-drop _ _ in
+      let last : length (last_line later.items) ≡ length (last_of fits) = cc (last_items n conn.items what more) in
+      let all : length (available (unsent conn) nexts) ≡ length (unsent conn) + length (flat_map line_of nexts) = length-append _ _ in
+      let near = prefix_near (max bytes 1 - length (unsent conn)) nexts in
+      let some = asked (max bytes 1 - length (unsent conn)) nexts what more e in
+      omega (arith, size, whole, left, last, all, near, some)
 
 within_took : (n bytes : ℕ) (nexts : List Next) (conn : Connection) → (conn.info ≡ false → nexts ≡ []) → IsWithinLast conn
     → IsWithinLast (took bytes n nexts conn)

@@ -1,19 +1,14 @@
 -- Room for bytes: a prefix of what is owed is given, and the listing is done where there was no more.
-use Rattle.srcp_core.proofs.Names.{cond_both, ◌≡◌, ℕ, zero, suc, inl, inr, ◌⊎◌, ⊎_elim, min, append_assoc, length-drop, ◌+◌, ◌-◌, ◌<◌, ◌≤◌}
-use Rattle.srcp_core.proofs.Names.{Bool, true, false, List, [], ◌∷◌, ◌++◌, map, take, length, refl, ap, ◌∙◌, arith, length-append}
-use Rattle.srcp_core.proofs.Names.{flat_map-append, lt-leb, ltb-true, ne_eqb, and_parts, flat_map, option_or, nat_lt, ◌==◌, ◌&&◌, Option}
+use Rattle.srcp_core.proofs.Names.{◌≡◌, ℕ, zero, suc, inl, inr, ◌⊎◌, ⊎_elim, min, append_assoc, length-drop, ◌+◌, ◌-◌, ◌<◌, ◌≤◌}
+use Rattle.srcp_core.proofs.Names.{true, false, List, [], ◌∷◌, ◌++◌, map, length, refl, ap, ◌∙◌, arith, length-append, max}
+use Rattle.srcp_core.proofs.Names.{flat_map-append, lt-leb, ltb-true, flat_map, option_or, Option}
 use Rattle.srcp_core.proofs.Names.{Some, None, IfSome, Shown, beyond, Next, Told, Listed, key_at, IsRisingBy}
-use Rattle.srcp_core.proofs.Names.{beyond_done, Connection, History, heard, is_nil, line_of, prefix, fitting}
+use Rattle.srcp_core.proofs.Names.{beyond_done, Connection, History, heard, line_of, prefix, fitting}
 use Rattle.srcp_core.proofs.Names.{available, exhausts, text, given, unsent, took, items_of, Item, cases_lt, le_refl}
-use Rattle.std.proofs.Math.Nat.{ne_of_gt}
 use Rattle.srcp_core.proofs.CourseLaws.Histories.{rows_after, concerning_by, concerning_same, cursor_by, cursor_done}
 use Rattle.srcp_core.proofs.CourseLaws.ItemsFitHistory.{Fits, Law, Gives, owed_by, untold_by}
 
 -- ---- prefixes
-
--- a room for some bytes is not one for none
-pub pos-eqb : (n : ℕ) → 0 < n → (n == 0) ≡ false
-pos-eqb n h = ne_eqb n 0 (ne_of_gt h)
 
 pub record IsPrefix (nexts all : List Next) : Type 0 where
   pub rest : List Next
@@ -26,22 +21,15 @@ is_prefix (suc bytes) (what ∷ nexts) =
     let ih = is_prefix (suc bytes - length (line_of what)) nexts in
     record { rest = ih.rest; whole = ap (λ ns. what ∷ ns) ih.whole }
 
-prefix_first : (nexts : List Next) → IsPrefix (take 1 nexts) nexts
-prefix_first [] = record { rest = []; whole = refl }
-prefix_first (what ∷ nexts) = record { rest = nexts; whole = refl }
-
 pub fitting_prefix : (bytes : ℕ) (left : List ℕ) (nexts : List Next) → IsPrefix (fitting bytes left nexts) nexts
-fitting_prefix bytes left nexts =
-    cond_both _ _ _ (λ it. IsPrefix it nexts) (λ _. prefix_first nexts) (λ _. is_prefix (bytes - length left) nexts)
+fitting_prefix bytes left nexts = is_prefix (max bytes 1 - length left) nexts
 
 pub prefix_none : (bytes : ℕ) → prefix bytes [] ≡ []
 prefix_none zero = refl
 prefix_none (suc bytes) = refl
 
 pub fitting_none : (bytes : ℕ) (left : List ℕ) → fitting bytes left [] ≡ []
-fitting_none bytes left = cond_both _ _ _ (λ it. it ≡ [])
-    (λ _. refl)
-    (λ _. prefix_none (bytes - length left))
+fitting_none bytes left = prefix_none (max bytes 1 - length left)
 
 -- where there are fewer bytes than that, the prefix is all
 pub prefix_all : (bytes : ℕ) (nexts : List Next) → length (flat_map line_of nexts) < bytes → prefix bytes nexts ≡ nexts
@@ -58,7 +46,7 @@ pub no_lists : {A : Type 0} (xs ys : List A) → xs ++ ys ≡ [] → (xs ≡ [])
 no_lists [] ys e = (refl, e)
 no_lists (x ∷ xs) ys e = cc
 
-no_map : {A B : Type 0} (f : A → B) (xs : List A) → map f xs ≡ [] → xs ≡ []
+pub no_map : {A B : Type 0} (f : A → B) (xs : List A) → map f xs ≡ [] → xs ≡ []
 no_map f [] e = refl
 no_map f (x ∷ xs) e = cc
 
@@ -120,26 +108,10 @@ also_done start P law history go items None order g =
 
 -- what is exhausted was all given
 pub exhausted : (bytes : ℕ) (left : List ℕ) (nexts : List Next) → exhausts bytes left nexts ≡ true → fitting bytes left nexts ≡ nexts
-exhausted bytes left nexts e = by _ refl
-  where
-    empty : (ns : List Next) → is_nil ns ≡ true → take 1 ns ≡ ns
-    empty [] e = refl
-    empty (what ∷ ns) e = cc
-
-    by : (t : Bool) → nat_lt (length (available left nexts)) bytes ≡ t → fitting bytes left nexts ≡ nexts
-    by true t =
-        let lt = ltb-true _ bytes t in
-        let zero : (bytes == 0) ≡ false = pos-eqb bytes (omega arith) in
-        let s = length-append left (flat_map line_of nexts) in
-        let room : length (flat_map line_of nexts) < bytes - length left = omega arith in
-        rw zero (prefix_all (bytes - length left) nexts room)
-    by false t =
-        let rest : (bytes == 0) && (is_nil left && is_nil nexts) ≡ true = rw t at e in
-        let parts = and_parts (bytes == 0) (is_nil left && is_nil nexts) rest in
-        let nils = and_parts (is_nil left) (is_nil nexts) parts.1 in
-        let first = parts.0 in
-        let second = nils.0 in
-        rw (first, second) (empty nexts nils.1)
+exhausted bytes left nexts e =
+    let less = ltb-true (length (available left nexts)) (max bytes 1) e in
+    let size = length-append left (flat_map line_of nexts) in
+    prefix_all (max bytes 1 - length left) nexts (omega (arith, less, size))
 
 pub text_items : (n : ℕ) (items : List Item) (nexts : List Next) → text (items ++ items_of n nexts) ≡ text items ++ flat_map line_of nexts
 text_items n items nexts =
@@ -162,11 +134,9 @@ prefix_short (suc bytes) (what ∷ nexts) h =
 -- room for `bytes` bytes gives at least that many, or all
 pub fitting_enough : (bytes : ℕ) (left : List ℕ) (nexts : List Next)
     → (bytes ≤ length left + length (flat_map line_of (fitting bytes left nexts))) ⊎ (fitting bytes left nexts ≡ nexts)
-fitting_enough zero left nexts = inl (omega arith)
-fitting_enough (suc n) left nexts =
-    let z : (suc n == 0) ≡ false = pos-eqb (suc n) (omega arith) in
-    rw z (⊎_elim (λ l. inr (prefix_short (suc n - length left) nexts (omega (arith, l)))) (λ l. inl l)
-    (cases_lt (length left + length (flat_map line_of (prefix (suc n - length left) nexts))) (suc n)))
+fitting_enough bytes left nexts =
+    ⊎_elim (λ less. inr (prefix_short (max bytes 1 - length left) nexts less)) (λ enough. inl (omega (arith, enough)))
+    (cases_lt (length (flat_map line_of (fitting bytes left nexts))) (max bytes 1 - length left))
 
 -- no more is taken than was given
 pub took_within : (bytes n : ℕ) (nexts : List Next) (conn : Connection) → conn.taken ≤ length (given conn)

@@ -5,10 +5,10 @@ use Rattle.srcp_core.proofs.Names.{length-map, fold-append, flat_map, option_or,
 use Rattle.srcp_core.proofs.Names.{Bus, IsLayout, opening, shown_rows, Next, Told, Listed, key_at, IsRisingBy, Event, Room, Connection}
 use Rattle.srcp_core.proofs.Names.{History, is_nil, is_open, line_of, text, unsent, owed, fitting, available, exhausts, items_of, took}
 use Rattle.srcp_core.proofs.Names.{given_room, overran, World, start, happens, counted, course, numbered, open_connection, accepted, rows}
-use Rattle.srcp_core.proofs.Names.{history, IsSession, Item, sent}
+use Rattle.srcp_core.proofs.Names.{history, IsSession, Item, sent, nat_lt, ◌||◌, ◌==◌}
 use Rattle.std.specs.Prelude.{option_map}
 use Rattle.srcp_core.specs.Laws.{IsPrefixOf, GivesOwed}
-use Rattle.srcp_core.proofs.CourseLaws.LinesHaveBytes.{fitting_full, none_after, owed_full}
+use Rattle.srcp_core.proofs.CourseLaws.LinesHaveBytes.{exhausts_by, fitting_first, fitting_full, none_after, owed_full}
 use Rattle.srcp_core.proofs.CourseLaws.Histories.{rows_after}
 use Rattle.srcp_core.proofs.CourseLaws.ShownRegistry.{shown_after, length_history}
 use Rattle.srcp_core.proofs.CourseLaws.RoomGivesWhatIsOwed.{text_items, fitting_prefix, exhausted, done_owes}
@@ -163,6 +163,14 @@ gives_owed buses layout w bytes conn shut info fits =
           all
           ∙ none_left bytes (length h) conn.taken conn.out conn.items nexts few in
           four _ _ _ _ (cc) info (ap is_nil u) (cc);
+      next = λ none empty. rw (none, empty) (fitting_first nexts (owed_full conn h (rows buses w)));
+      done =
+          let ends : Bool = nat_lt (length (available (unsent conn) nexts)) bytes
+          || ((bytes == 0) && (is_nil (unsent conn) && is_nil nexts)) in
+          ap (λ t. if conn.info && t then option_or conn.done (Some (length h)) else conn.done)
+          (exhausts_by bytes (unsent conn) nexts (owed_full conn h (rows buses w)))
+          ∙ ap (λ t. if t && ends then option_or conn.done (Some (length h)) else conn.done) info
+          ∙ ap (λ n. if ends then option_or conn.done (Some n) else conn.done) size;
     }
 
 pub settles_after_owed : (buses : List Bus) → IsLayout buses → (events : List Event) (number bytes : ℕ) (conn later : Connection)

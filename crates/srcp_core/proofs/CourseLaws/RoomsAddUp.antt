@@ -1,24 +1,23 @@
 -- Rooms add up at every open connection of a course.
 use Rattle.srcp_core.proofs.Names.{cond_both, ◌≡◌, ℕ, zero, suc, ◌+◌, ◌<◌, ◌≤◌, min, Bool, true, false, List, [], ◌∷◌, ◌++◌, take, length}
-use Rattle.srcp_core.proofs.Names.{drop, map, refl, ap, sym, ◌∙◌, subst, arith, append-nil, length-append, length-drop, take_all}
+use Rattle.srcp_core.proofs.Names.{drop, map, refl, ap, sym, ◌∙◌, subst, arith, append-nil, length-append, length-drop, take_all, max}
 use Rattle.srcp_core.proofs.Names.{filter_map-append, fold-append, le-ltb, ltb-false, lt-ltb, flat_map, AllByRecursion, option_or, nat_lt}
 use Rattle.srcp_core.proofs.Names.{Option, Some, None, ◌&&◌, if◌then◌else◌, Change, Shown, beyond, Next, Told, Listed, Bus, IsLayout}
 use Rattle.srcp_core.proofs.Names.{opening, shown_rows, Event, Room, Connection, History, heard, line_of, fitting, is_open, is_done_by}
 use Rattle.srcp_core.proofs.Names.{items_of, sent, untold, cursor_at, available, exhausts, given, told_change, unsent, text, owed, overran}
 use Rattle.srcp_core.proofs.Names.{took, given_room, World, numbered, with_numbered, counted, accepted, start, happens, course, rows}
-use Rattle.srcp_core.proofs.Names.{history, AddsUp, Item, lt-leb, and-true, cases_Bool, ⊎_elim}
+use Rattle.srcp_core.proofs.Names.{history, AddsUp, Item, lt-leb, and-true, cases_Bool, ⊎_elim, is_nil}
 use Rattle.std.specs.Prelude.{option_map}
 use Rattle.srcp_core.specs.Laws.{without_events}
-use Rattle.srcp_core.proofs.CourseLaws.LinesHaveBytes.{first_empty, owed_full}
+use Rattle.srcp_core.proofs.CourseLaws.LinesHaveBytes.{first_nil, owed_full}
 use Rattle.srcp_core.proofs.CourseLaws.Histories.{concerning_by, concerning_same, cursor_by, cursor_before}
 use Rattle.srcp_core.proofs.CourseLaws.RoomGivesWhatIsOwed.{no_lists, fitting_none}
-use Rattle.srcp_core.proofs.CourseLaws.SessionsOfACourse.{anything, at_number, fits_open, open_shut, opening_in_order, overran_open}
+use Rattle.srcp_core.proofs.CourseLaws.SessionsOfACourse.{anything, at_number, fits_open, nil_is, open_shut, opening_in_order, overran_open}
 use Rattle.srcp_core.proofs.CourseLaws.ItemsFitHistory.{Fits, tolds, untold_by}
 use Rattle.srcp_core.proofs.CourseLaws.RoomSettles.{after_room, owes_after, OwesAfter}
 use Rattle.srcp_core.proofs.Agreement.NumbersAndKeys.{numbered_with, with_twice}
 use Rattle.srcp_core.proofs.CourseLaws.SessionsAreKept.{sound, concerning_start}
-use Rattle.srcp_core.proofs.CourseLaws.RoomInTwoParts.{parts_same}
-use Rattle.srcp_core.proofs.CourseLaws.RoomAfterRoom.{left_after, took_both}
+use Rattle.srcp_core.proofs.CourseLaws.RoomInTwoParts.{left_after, parts_same, took_both}
 
 -- ---- a room and overruns
 
@@ -88,12 +87,10 @@ took_nothing b n nexts conn u e =
         let z : length (available (unsent conn) nexts) ≡ 0 = cc in
         omega arith
 
-    at_nothing : (b : ℕ) → exhausts b [] [] ≡ true
-    at_nothing zero = refl
-    at_nothing (suc b) = let l : 0 < suc b = omega arith in cc (lt-ltb 0 (suc b) l)
-
     exhausted_now : exhausts b (unsent conn) nexts ≡ true
-    exhausted_now = cc (at_nothing b)
+    exhausted_now =
+        let none : length (available (unsent conn) nexts) ≡ 0 = cc in
+        lt-ltb (length (available (unsent conn) nexts)) (max b 1) (omega (arith, none))
 
 -- ---- at a connection of a course
 
@@ -143,7 +140,7 @@ module _ (buses : List Bus) (layout : IsLayout buses) (w : World) (conn : Connec
         some_room o a,
         took_overran h a (owed conn h (rows buses w)) conn shut o,
         r.owes,
-        took_both a b (length h) (owed conn h (rows buses w)) r.rest conn pb within r.whole,
+        took_both a (length h) (owed conn h (rows buses w)) conn within b r.rest pb r.whole,
         some_room o (a + b),
       )
 
@@ -161,8 +158,9 @@ module _ (buses : List Bus) (layout : IsLayout buses) (w : World) (conn : Connec
       (sym (left_after _ _ conn within)
       ∙ ap unsent (sym (some_room o 0)) ∙ u) in
       let nothing : owed conn (history buses w) (rows buses w) ≡ [] =
-      first_empty _ (owed_full conn (history buses w) (rows buses w))
-      (ap (λ l. flat_map line_of (fitting 0 l (owed conn (history buses w) (rows buses w)))) (sym parts.0) ∙ parts.1) in
+      nil_is _
+      (sym (first_nil _ (owed_full conn (history buses w) (rows buses w)))
+      ∙ ap is_nil (ap (λ l. flat_map line_of (fitting 0 l (owed conn (history buses w) (rows buses w)))) (sym parts.0) ∙ parts.1)) in
       some_room o b
       ∙ took_nothing b (length (history buses w)) (owed conn (history buses w) (rows buses w)) conn parts.0 nothing
       ∙ sym (took_nothing 0 (length (history buses w)) (owed conn (history buses w) (rows buses w)) conn parts.0 nothing)

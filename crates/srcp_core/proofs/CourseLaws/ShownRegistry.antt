@@ -22,12 +22,16 @@ shown_after state (step ∷ steps) =
     shown_after (stepped state step) steps
     ∙ ap (λ rows. rows_after rows (history_from (stepped state step) steps)) (shown_rows-updated_all (updates_of state step) state)
 
--- one step more
+-- more steps, and one
+pub history_append : (state : State) (steps more : List Step)
+    → history_from state (steps ++ more) ≡ history_from state steps ++ history_from (state_after state steps) more
+history_append state [] more = refl
+history_append state (step ∷ steps) more = cc (history_append (stepped state step) steps more)
+
 pub history_push : (state : State) (steps : List Step) (step : Step)
     → history_from state (steps ++ step ∷ [])
     ≡ history_from state steps ++ map (λ update. update.change) (updates_of (state_after state steps) step) ∷ []
-history_push state [] step = refl
-history_push state (other ∷ steps) step = cc (history_push (stepped state other) steps step)
+history_push state steps step = history_append state steps (step ∷ [])
 
 pub length_history : (state : State) (steps : List Step) → length (history_from state steps) ≡ length steps
 length_history state [] = refl

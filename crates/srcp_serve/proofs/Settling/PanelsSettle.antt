@@ -15,7 +15,8 @@ use Rattle.srcp_serve.proofs.OnlyRoomSends.{AreOfOthers, is_of}
 use Rattle.srcp_serve.proofs.VisitsSendWhatIsTaken.{all_parts}
 use Rattle.srcp_serve.specs.Settling.{SettlesSoon, TakesAll, TakesWaits, WaitsAreGoneAfterAVisit}
 use Rattle.srcp_serve.proofs.TurnsCarryStreams.{IsTurnOfPeers, turns_of_peers}
-use Rattle.srcp_serve.proofs.Settling.PanelsTakeTheirLines.{Panel, panel_others, brought_adds, no_map}
+use Rattle.srcp_core.proofs.CourseLaws.RoomGivesWhatIsOwed.{no_map}
+use Rattle.srcp_serve.proofs.Settling.PanelsTakeTheirLines.{Panel, panel_others, brought_adds}
 use Rattle.srcp_serve.proofs.Settling.VisitsWriteUntilNothingIsLeft.{one_unless_nil, visited_whole}
 use Rattle.srcp_feed.specs.declared.feed.Next.TheVariants.{Told, Listed}
 

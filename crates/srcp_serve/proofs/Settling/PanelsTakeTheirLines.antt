@@ -9,19 +9,16 @@ use Rattle.srcp_serve.proofs.Names.{answered, answered_as, new_lines, rows, Even
 use Rattle.srcp_serve.proofs.Names.{no_lists, Shown, concerns, le_refl, Next, IsLayout, CoreFault, numbered_with, takes_within}
 use Rattle.srcp_serve.proofs.Names.{took_overran, lent, cond_both, nil_from_length, IsKept, kept_all}
 use Rattle.srcp_rules.specs.State.{State, opening, shown_rows}
-use Rattle.srcp_core.proofs.CourseLaws.ShownRegistry.{length_history}
+use Rattle.srcp_core.proofs.CourseLaws.ShownRegistry.{history_append, length_history}
 use Rattle.srcp_core.proofs.CourseLaws.Histories.{AreBy, IsDoneBy, cursor_later, enumerate_push}
 use Rattle.srcp_core.proofs.CourseLaws.ItemsFitHistory.{Fits}
 use Rattle.srcp_core.proofs.CourseLaws.LinesHaveBytes.{AreFull, owed_full}
+use Rattle.srcp_core.proofs.CourseLaws.RoomGivesWhatIsOwed.{no_map}
 use Rattle.srcp_core.proofs.CourseLaws.RoomSettles.{owes_after}
-use Rattle.srcp_core.proofs.CourseLaws.RoomAfterRoom.{left_after}
-use Rattle.srcp_core.proofs.CourseLaws.SessionsOfACourse.{anything, fits_open, open_shut, stands}
+use Rattle.srcp_core.proofs.CourseLaws.RoomInTwoParts.{left_after}
+use Rattle.srcp_core.proofs.CourseLaws.SessionsOfACourse.{anything, at_number, fits_open, open_shut, stands}
 use Rattle.srcp_serve.proofs.RoomSendsWhatIsLent.{first_some, fits_left, given_more, after_room, lent_is, steady_course, there_after}
-use Rattle.srcp_serve.proofs.OnlyRoomSends.{steady_at, AreOfOthers, stays_all}
-
-pub no_map : {A B : Type 0} (f : A → B) (xs : List A) → map f xs ≡ [] → xs ≡ []
-no_map f [] e = refl
-no_map f (x ∷ xs) e = cc
+use Rattle.srcp_serve.proofs.OnlyRoomSends.{AreOfOthers, IsSteady, stays_all}
 
 -- all changes of a history
 abbrev pub changes_of : History → List Change
@@ -34,12 +31,6 @@ AreNone history = AllByRecursion (λ changes. changes ≡ []) history
 pub none_each : (history : History) → changes_of history ≡ [] → AreNone history
 none_each [] e = tt
 none_each (changes ∷ history) e = let both = no_lists changes _ e in (both.0, none_each history both.1)
-
-pub history_append : (state : State) (xs ys : List Step) → history_from state (xs ++ ys)
-    ≡ history_from state xs ++ history_from (state_after state xs) ys
-history_append state [] ys = refl
-history_append state (step ∷ xs) ys =
-    ap (λ h. map (λ update. update.change) (updates_of state step) ∷ h) (history_append (stepped state step) xs ys)
 
 -- steps without a change leave the registry as it was
 pub same_state : (state : State) (steps : List Step) → changes_of (history_from state steps) ≡ [] → state_after state steps ≡ state
@@ -165,10 +156,11 @@ owed_then (byte ∷ bytes) nexts = nexts
 owed_then [] (what ∷ nexts) = nexts
 owed_then [] [] = []
 
-first_lent : (bytes : List ℕ) (nexts : List Next) → bytes ++ flat_map line_of (fitting 0 bytes nexts) ≡ first_text bytes nexts
-first_lent (byte ∷ bytes) nexts = cc (fits_left 0 byte bytes nexts (omega arith), append-nil (byte ∷ bytes))
-first_lent [] (what ∷ nexts) = append-nil (line_of what)
-first_lent [] [] = refl
+first_lent : (bytes : List ℕ) (nexts : List Next) → AreFull nexts → bytes ++ flat_map line_of (fitting 0 bytes nexts)
+    ≡ first_text bytes nexts
+first_lent (byte ∷ bytes) nexts full = cc (fits_left 0 byte bytes nexts (omega arith), append-nil (byte ∷ bytes))
+first_lent [] (what ∷ nexts) full = cc (first_some 0 what nexts full.0 (omega arith), append-nil (line_of what))
+first_lent [] [] full = refl
 
 first_fits : (bytes : List ℕ) (nexts : List Next) → AreFull nexts → fitting (length (first_text bytes nexts)) bytes nexts
     ≡ first_given bytes nexts
@@ -215,7 +207,7 @@ module _ (buses : List Bus) (n : ℕ) where
 
     -- no command of its own ends it
     pub panel_goes_on : p.conn.ended ≡ false
-    panel_goes_on = (steady_at n w.connections p.conn p.is.there (steady_course buses events)).goes_on p.is.info
+    panel_goes_on = (at_number IsSteady n w.connections p.conn (steady_course buses events) p.is.there).goes_on p.is.info
 
     panel_fits : IsLayout buses → Fits (shown_rows (opening buses 0)) (history buses w) p.conn.go_step p.conn.items p.conn.done
     panel_fits layout = (fits_open (shown_rows (opening buses 0)) _ (history buses w) p.conn panel_shut
@@ -240,7 +232,7 @@ module _ (buses : List Bus) (n : ℕ) where
           room_is 0,
           took_overran past 0 due p.conn panel_shut p.is.fine,
           left_after (length past) due p.conn (takes_within buses layout events n p.conn p.is.there),
-          first_lent bytes nexts,
+          first_lent bytes nexts panel_full,
         )
 
     -- room for all that it lends
