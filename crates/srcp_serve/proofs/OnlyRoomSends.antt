@@ -1,7 +1,7 @@
 -- What the events but room leave of a connection, and what events of others leave of it.
 use Rattle.srcp_serve.proofs.Names.{◌≡◌, ◌∙◌, ℕ, zero, suc, ◌≤◌, Bool, true, false, List, [], ◌∷◌, ◌++◌, map, length, Some, None, refl, ap}
-use Rattle.srcp_serve.proofs.Names.{sym, subst, arith, append-nil, length-append, ◌==◌, fold, AllByRecursion, take-append-le}
-use Rattle.srcp_serve.proofs.Names.{same_Some, Piece, Open, Bytes, At, Shut, Event, Room, Bus, Connection, given, sent, given_room, World}
+use Rattle.srcp_serve.proofs.Names.{sym, arith, append-nil, length-append, ◌==◌, fold, AllByRecursion, take-append-le}
+use Rattle.srcp_serve.proofs.Names.{Piece, Open, Bytes, At, Shut, Event, Room, Bus, Connection, given, sent, given_room, World}
 use Rattle.srcp_serve.proofs.Names.{fresh, numbered, with_numbered, open_connection, at_connection, counted, entered, fault, or_refused}
 use Rattle.srcp_serve.proofs.Names.{happens, rows, history, all_numbered, eqb-false, IsAnswered, kept_fed, kept_shut, numbered_after}
 use Rattle.srcp_serve.proofs.Names.{IsPlain}

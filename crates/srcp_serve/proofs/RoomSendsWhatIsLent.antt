@@ -1,13 +1,13 @@
 -- What a connection lends and its peer then takes is what the course says was sent.
-use Rattle.srcp_serve.proofs.Names.{◌≡◌, ◌∙◌, ℕ, zero, suc, ◌+◌, ◌-◌, ◌≤◌, min, Bool, true, false, ◌==◌, List, [], ◌∷◌, ◌++◌, take, drop}
+use Rattle.srcp_serve.proofs.Names.{◌≡◌, ◌∙◌, ℕ, suc, ◌+◌, ◌-◌, ◌≤◌, min, Bool, true, false, List, [], ◌∷◌, ◌++◌, take, drop}
 use Rattle.srcp_serve.proofs.Names.{length, refl, ap, sym, arith, length-append, length-drop, take-add, append-nil, append_assoc, add-zero}
-use Rattle.srcp_serve.proofs.Names.{if◌then◌else◌, Option, Some, None, ◌<◌, flat_map, nat_tests, zero-min, min-eq_left, take-append-le}
+use Rattle.srcp_serve.proofs.Names.{if◌then◌else◌, Option, Some, None, ◌<◌, flat_map, zero-min, min-eq_left, take-append-le}
 use Rattle.srcp_serve.proofs.Names.{drop_at, flat_map-append, Shown, Next, Connection, History, line_of, text, given, sent, unsent, prefix}
 use Rattle.srcp_serve.proofs.Names.{fitting, available, items_of, owed, overran, took, given_room, is_open, take-nil, fold-append}
 use Rattle.srcp_serve.proofs.Names.{same_Some, AllByRecursion, Event, Open, Bytes, Room, At, Shut, Bus, World, fresh, start, numbered}
 use Rattle.srcp_serve.proofs.Names.{open_connection, at_connection, counted, or_refused, happens, course, history, rows}
-use Rattle.srcp_serve.proofs.Names.{NoSuch, owed_plain, numbered_with, fitting_none, took_within, all_numbered, all_push, lent, and-false}
-use Rattle.srcp_serve.proofs.Names.{cond_both, is_none, opened}
+use Rattle.srcp_serve.proofs.Names.{NoSuch, owed_plain, numbered_with, fitting_none, took_within, all_numbered, all_push, lent}
+use Rattle.srcp_serve.proofs.Names.{cond_both, is_none, opened, max}
 use Rattle.srcp_core.proofs.CourseLaws.LinesHaveBytes.{AreFull, owed_full}
 use Rattle.srcp_core.proofs.CourseLaws.SessionsOfACourse.{at_number}
 use Rattle.srcp_serve.proofs.OnlyRoomSends.{IsSteady, IsSending, event_keeps, sending_bytes, sending_shut}
