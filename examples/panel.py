@@ -6,6 +6,7 @@ A server closes the connection of a panel that falls behind. This one then joins
 Ctrl-C ends it.
 """
 import argparse
+import signal
 import socket
 import sys
 import time
@@ -14,6 +15,7 @@ if sys.version_info < (3, 11):
     sys.exit("this takes Python 3.11 or later")
 MOMENT = 0.5  # a listing has no end mark: after this many seconds without a line the panel holds all rows
 LONGEST = 3.0  # on a busy layout no such moment comes: it waits for one this long at most
+NAMES = {"POWER": 3, "GL": 4, "GA": 4, "FB": 4, "LOCK": 5, "SESSION": 4}  # where the name of a device ends, behind INFO
 
 
 def lines_of(connection):
@@ -38,15 +40,19 @@ def lines_of(connection):
 
 
 def apply(rows, line):
-    """Puts in the row that an information line tells, or takes out all rows of the device that is gone."""
-    _, code, _, *words = line.split(" ")
-    device = tuple(words[:{"POWER": 2, "LOCK": 4}.get(words[1], 3)])
+    """Puts in the row that an information line tells, or takes out all rows of the device that is gone. Returns whether
+    the panel knows the line's code and its group: it skips any other line."""
+    _, code, *words = line.split(" ")
+    if code not in ("100", "101", "102") or len(words) < 3 or words[2] not in NAMES:
+        return False
+    device = tuple(words[1:NAMES[words[2]]])
     if code == "102":
         for key in [key for key in rows if key[0] == device]:
             del rows[key]
     else:
-        port = words[3] if words[1] == "GA" and code == "100" else None
+        port = words[4] if words[2] == "GA" and code == "100" else None
         rows[device, code, port] = line
+    return True
 
 
 def watch(host, port):
@@ -63,8 +69,7 @@ def watch(host, port):
                 told = False
             elif replies:  # the welcome line, and the replies to the two lines that were sent
                 replies -= 1
-            else:
-                apply(rows, line)
+            elif apply(rows, line):
                 print(line, flush=True)
                 told = True
 
@@ -84,6 +89,7 @@ def main():
 
 
 if __name__ == "__main__":
+    signal.signal(signal.SIGPIPE, signal.SIG_DFL)  # as `head` wants it: ended without a word once nobody reads
     try:
         main()
     except KeyboardInterrupt:

@@ -90,6 +90,18 @@ def panel_that_joins_again(program):
     return None
 
 
+def panel_that_skips_what_it_does_not_know(program):
+    """A code or a group of a later server, and a line without either."""
+    with socket.create_server(("127.0.0.1", 0)) as server, panel_at(server.getsockname()[1]) as panel:
+        server.settimeout(SECONDS)
+        peer, _ = server.accept()
+        with peer:
+            peer.sendall(WELCOME + b"0.000 202 OK CONNECTIONMODE\n0.000 200 OK GO 1\n")
+            peer.sendall(b"0.000 103 INFO 1 GL 3\n0.000 100 INFO 1 SM 3 0\n0.000 600 NEWS\n0.000 100 INFO 1 FB 2 1\n")
+            got = printed_until(panel, " rows")
+    return None if got == ["1 FB 2 1", "-- 1 rows"] else f"got {got!r}"
+
+
 def panel_on_a_busy_layout(program):
     """It counts its rows though no half second passes without a line."""
     def changes_often(throttle, ended):
@@ -188,7 +200,7 @@ def clients_say_how_they_are_started(_):
     return None
 
 
-CLIENT_CASES = (panel_that_watches_a_throttle, panel_that_joins_again, panel_on_a_busy_layout,
-                throttle_of_a_train_that_runs, throttle_with_any_number_of_functions,
+CLIENT_CASES = (panel_that_watches_a_throttle, panel_that_joins_again, panel_that_skips_what_it_does_not_know,
+                panel_on_a_busy_layout, throttle_of_a_train_that_runs, throttle_with_any_number_of_functions,
                 throttle_that_ends_leaves_it_standing, throttle_whose_train_another_took,
                 throttle_by_itself_meets_no_train_of_the_readme, clients_say_how_they_are_started)
