@@ -1,11 +1,12 @@
 -- What the events but room leave of a connection, and what events of others leave of it.
-use Rattle.srcp_serve.proofs.Names.{◌≡◌, ◌∙◌, ℕ, zero, suc, ◌≤◌, Bool, true, false, List, [], ◌∷◌, ◌++◌, map, length, Some, None, refl, ap}
+use Rattle.srcp_serve.proofs.Names.{◌≡◌, ◌∙◌, ℕ, ◌≤◌, Bool, true, false, List, [], ◌∷◌, ◌++◌, map, length, Some, None, refl, ap}
 use Rattle.srcp_serve.proofs.Names.{sym, arith, append-nil, length-append, ◌==◌, fold, AllByRecursion, take-append-le}
 use Rattle.srcp_serve.proofs.Names.{Piece, Open, Bytes, At, Shut, Event, Room, Bus, Connection, given, sent, given_room, World}
 use Rattle.srcp_serve.proofs.Names.{fresh, numbered, with_numbered, open_connection, at_connection, counted, entered, fault, or_refused}
 use Rattle.srcp_serve.proofs.Names.{happens, rows, history, all_numbered, eqb-false, IsAnswered, kept_fed, kept_shut, numbered_after}
 use Rattle.srcp_serve.proofs.Names.{IsPlain}
 use Rattle.srcp_info.specs.Line.{reply_line}
+use Rattle.srcp_core.proofs.Agreement.NumbersAndKeys.{map_with}
 use Rattle.srcp_core.proofs.CourseLaws.NothingAfterTheEnd.{numbered_other, numbered_push}
 use Rattle.srcp_core.proofs.CourseLaws.SessionsOfACourse.{at_number}
 
@@ -29,20 +30,12 @@ pub record IsGrown (c d : Connection) : Type 0 where
   pub more : List ℕ
   pub out : d.out ≡ c.out ++ more
 
-sent_with : (n : ℕ) (f : Connection → Connection) (conns : List Connection)
-    → ((conn : Connection) → numbered n conns ≡ Some conn → IsSteady conn → sent (f conn) ≡ sent conn) → AllByRecursion IsSteady conns
-    → map sent (with_numbered n f conns) ≡ map sent conns
-sent_with n f [] h a = refl
-sent_with zero f (c ∷ conns) h a = refl
-sent_with (suc zero) f (c ∷ conns) h a = ap (λ t. t ∷ map sent conns) (h c refl a.0)
-sent_with (suc (suc n)) f (c ∷ conns) h a = ap (λ ts. sent c ∷ ts) (sent_with (suc n) f conns h a.1)
-
 sending_with : (n : ℕ) (f : Connection → Connection) (texts : List (List ℕ)) (conns : List Connection)
     → ((conn : Connection) → numbered n conns ≡ Some conn → IsSteady conn → IsSteady (f conn) × (sent (f conn) ≡ sent conn))
     → IsSending texts conns → IsSending texts (with_numbered n f conns)
 sending_with n f texts conns h a = record {
   steady = all_numbered _ n f conns (λ conn e s. (h conn e s).0) a.steady;
-  sends = sent_with n f conns (λ conn e s. (h conn e s).1) a.steady ∙ a.sends;
+  sends = map_with sent n f conns (λ conn e. (h conn e (at_number IsSteady n conns conn a.steady e)).1) ∙ a.sends;
 }
 
 grown_sent : (c d : Connection) → IsGrown c d → c.items ≡ [] → c.ended ≡ false → IsSteady c → IsSteady d × (sent d ≡ sent c)

@@ -13,7 +13,7 @@ use Rattle.srcp_core.proofs.Invariants.LinesAsk.{OfAnswers, acts_law}
 use Rattle.srcp_core.proofs.Agreement.LinesAgree.{IsFine, asks_of}
 use Rattle.srcp_core.proofs.Agreement.PlacesChange.{given_reply}
 use Rattle.srcp_core.proofs.CourseLaws.SessionsOfACourse.{at_number}
-use Rattle.srcp_core.proofs.Agreement.NumbersAndKeys.{numbered_with}
+use Rattle.srcp_core.proofs.Agreement.NumbersAndKeys.{map_with, numbered_with}
 use Rattle.srcp_core.proofs.Agreement.StandsAfterAChange.{Fine}
 use Rattle.srcp_core.specs.declared.record.Step.TheVariants as recorded
 pub use Rattle.srcp_core.specs.Run.{Records}
@@ -39,20 +39,12 @@ told_with (suc (suc n)) f g (x ∷ xs) conn e h =
     prefix None = refl
     prefix (Some told) = refl
 
-pub told_same : (n : ℕ) (f : Connection → Connection) (xs : List Connection)
-    → ((conn : Connection) → numbered n xs ≡ Some conn → record_of (f conn) ≡ record_of conn)
-    → map record_of (with_numbered n f xs) ≡ map record_of xs
-told_same n f [] h = refl
-told_same zero f (x ∷ xs) h = refl
-told_same (suc zero) f (x ∷ xs) h = cc (h x refl)
-told_same (suc (suc n)) f (x ∷ xs) h = cc (told_same (suc n) f xs h)
-
 -- ---- what a run has told of a course
 
 pub tells_same : (r : Recording) (w : World) (n : ℕ) (f : Connection → Connection)
     → ((conn : Connection) → numbered n w.connections ≡ Some conn → record_of (f conn) ≡ record_of conn) → Records r w
     → Records r (at_connection n f w)
-tells_same r w n f h t = record { steps = t.steps; refused = t.refused; connections = t.connections ∙ sym (told_same n f _ h) }
+tells_same r w n f h t = record { steps = t.steps; refused = t.refused; connections = t.connections ∙ sym (map_with record_of n f _ h) }
 
 pub tells_did : (r : Recording) (w : World) (step : Step) → Records r w → Records (stepped (recorded_step step ∷ []) r) (did step w)
 tells_did r w step t = record {

@@ -1,8 +1,10 @@
 -- Keys and connections by their numbers, the first being 1.
 use Rattle.srcp_core.proofs.Names.{◌≡◌, ◌≢◌, ℕ, zero, suc, ◌+◌, ◌<◌, ◌≤◌, ⊎_elim, inl, inr, ◌⊎◌, Bool, true, false, cond, List, [], ◌∷◌}
-use Rattle.srcp_core.proofs.Names.{◌++◌, length, length-append, refl, ap, sym, ◌∙◌, arith, subst, filter-append, suc-ne-zero, suc_inj}
+use Rattle.srcp_core.proofs.Names.{◌++◌, length, length-append, refl, ap, sym, ◌∙◌, arith, subst, filter-append}
 use Rattle.srcp_core.proofs.Names.{filter, Option, Some, None, is_none, if◌then◌else◌, Connection, is_open, numbered, with_numbered}
 use Rattle.srcp_core.proofs.Names.{if_open, key_of, without_key, cases_lt}
+use Rattle.srcp_core.proofs.Names.{map}
+use Rattle.srcp_core.proofs.Invariants.PlacesCover.{Where, Here, Away, where_is}
 use Rattle.std.specs.Prelude.{option_map}
 use Rattle.std.proofs.lemmas.List.{length-set, get_or-set_other, get_or_append_left, get_or_past}
 use Rattle.std.proofs.Math.Seq.{get_or-append_seam}
@@ -42,6 +44,14 @@ with_twice (suc (suc n)) f g k (x ∷ xs) h = cc (with_twice (suc n) f g k xs h)
 pub with_same : (n : ℕ) (f : Connection → Connection) (xs : List Connection)
     → ((x : Connection) → numbered n xs ≡ Some x → f x ≡ x) → with_numbered n f xs ≡ xs
 with_same n f xs h = rw (with_itself n xs) at (with_twice n (λ c. c) f (λ c. c) xs h)
+
+-- a change that changes nothing of what is told of each
+pub map_with : {X : Type 0} (tell : Connection → X) (n : ℕ) (f : Connection → Connection) (xs : List Connection)
+    → ((x : Connection) → numbered n xs ≡ Some x → tell (f x) ≡ tell x) → map tell (with_numbered n f xs) ≡ map tell xs
+map_with tell n f [] h = refl
+map_with tell zero f (x ∷ xs) h = refl
+map_with tell (suc zero) f (x ∷ xs) h = cc (h x refl)
+map_with tell (suc (suc n)) f (x ∷ xs) h = cc (map_with tell (suc n) f xs h)
 
 pub with_push : (n : ℕ) (f : Connection → Connection) (xs ys : List Connection) (x : Connection) → numbered n xs ≡ Some x
     → with_numbered n f (xs ++ ys) ≡ with_numbered n f xs ++ ys
@@ -207,26 +217,17 @@ pub record Source (m n : ℕ) (f : Connection → Connection) (xs : List Connect
 
 pub look_with : (m n : ℕ) (f : Connection → Connection) (xs : List Connection) (y : Connection) → numbered m (with_numbered n f xs) ≡ Some y
     → Source m n f xs y
-look_with zero n f xs y e = cc
-look_with (suc m) n f [] y e = cc
-look_with (suc m) zero f (x ∷ xs) y e = record { x = y; there = e; from = inl (λ z. suc-ne-zero m z, refl) }
-look_with (suc zero) (suc zero) f (x ∷ xs) y e = let same : f x ≡ y = cc in record { x = x; there = refl; from = inr (refl, sym same) }
-look_with (suc zero) (suc (suc n)) f (x ∷ xs) y e = record {
-  x = y;
-  there = e;
-  from = inl (λ z. suc-ne-zero n (sym (suc_inj {m = zero} {n = suc n} z)), refl);
-}
-look_with (suc (suc m)) (suc zero) f (x ∷ xs) y e = record {
-  x = y;
-  there = e;
-  from = inl (λ z. suc-ne-zero m (suc_inj {m = suc m} {n = zero} z), refl);
-}
-look_with (suc (suc m)) (suc (suc n)) f (x ∷ xs) y e =
-    let s = look_with (suc m) (suc n) f xs y e in
-    record {
-      x = s.x;
-      there = s.there;
-      from = ⊎_elim (λ h. inl (λ z. h.0 (suc_inj {m = suc m} {n = suc n} z), h.1)) (λ h. inr (cc h.0, h.1)) s.from;
+look_with m n f xs y e = by (numbered m xs) refl (where_is m n)
+  where
+    by : (o : Option Connection) → numbered m xs ≡ o → Where m n → Source m n f xs y
+    by None none (Here same) = let bad : None ≡ Some y = cc (numbered_with n f xs) in cc
+    by (Some x) there (Here same) =
+        let is : Some (f x) ≡ Some y = cc (numbered_with n f xs) in
+        record { x = x; there = there; from = inr (same, cc) }
+    by o there (Away d) = record {
+      x = y;
+      there = sym (numbered_other m n f xs (λ z. d (sym z))) ∙ e;
+      from = inl (d, refl);
     }
 
 -- and after one more was opened
