@@ -1,6 +1,7 @@
 """How a program of this folder begins and ends, and what it says meanwhile."""
 import argparse
 import asyncio
+import contextlib
 import signal
 import sys
 
@@ -25,7 +26,8 @@ def say(text):
     about = text.partition(":")[0]
     if about not in ("server", "station", "broker") or said.get(about) != text:
         said[about] = text
-        print(f"-- {printable(text)}", file=sys.stderr, flush=True)
+        with contextlib.suppress(OSError):  # its terminal is gone: what is to be done is done nonetheless
+            print(f"-- {printable(text)}", file=sys.stderr, flush=True)
 
 
 def printable(text):
@@ -74,11 +76,13 @@ def arguments(about):
 
 
 def run(program):
-    """Runs a program. Exit status 0: it was ended by SIGTERM or Ctrl-C; 1: it cannot go on; 2: its words are wrong."""
+    """Runs a program. Exit status 0: it was ended by SIGTERM, by Ctrl-C, or by the end of its terminal (SIGHUP), which one
+    that nohup starts ignores; 1: it cannot go on; 2: its words are wrong."""
     async def until_told():
         task = asyncio.current_task()
         assert task
-        for number in (signal.SIGTERM, signal.SIGINT):
+        ignores = signal.getsignal(signal.SIGHUP) is signal.SIG_IGN
+        for number in (signal.SIGTERM, signal.SIGINT) + (signal.SIGHUP,) * (not ignores):
             asyncio.get_running_loop().add_signal_handler(number, task.cancel)
         await program
 

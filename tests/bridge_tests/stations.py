@@ -3,6 +3,7 @@
 The log of a simulated station has what changed the track in the words of DCC-EX, and its cabs have 126 steps.
 """
 import re
+import signal
 import time
 from typing import Any
 
@@ -235,6 +236,11 @@ class Losses(StationCase):
     def test_the_driver_is_ended(self):
         self.assertEqual(self.driver.end(), 0)
         self.track(lambda s: s.cabs[3][0] <= 0 and s.power == 0, "SIGTERM: all stand")
+        self.has("100 INFO 1 POWER OFF no station", STANDS)
+
+    def test_the_terminal_of_the_driver_is_closed(self):
+        self.assertEqual(self.driver.end(signal.SIGHUP), 0)
+        self.track(lambda s: s.cabs[3][0] <= 0 and s.power == 0, "SIGHUP: all stand")
         self.has("100 INFO 1 POWER OFF no station", STANDS)
 
     def test_a_stop_of_all_that_cut_the_power(self):

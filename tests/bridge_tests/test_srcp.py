@@ -1,8 +1,13 @@
 """The modules that the programs share: parsing, sessions, the mirror over overruns and restarts, how a program ends."""
 import argparse
 import asyncio
+import fcntl
+import os
+import pty
 import signal
 import subprocess
+import sys
+import termios
 import time
 import unittest
 
@@ -314,6 +319,29 @@ class Following(Case):
                 peer.sendall(b"x" * 100000)
         until(lambda: "closed the connection" in guard.told(), "it is told")
         self.assertIsNone(guard.process.poll())
+
+    def test_ends_as_its_terminal_is_closed(self):
+        """What it still says goes nowhere then, and hinders nothing. One that nohup starts outlives its terminal."""
+        for ignores in (False, True):
+            master, terminal = pty.openpty()
+            words = [sys.executable, PROGRAMS / "guard.py", "--port", str(self.server.port)]
+
+            def prepare():
+                fcntl.ioctl(0, termios.TIOCSCTTY, 0)
+                signal.signal(signal.SIGHUP, signal.SIG_IGN if ignores else signal.SIG_DFL)
+
+            guard = subprocess.Popen(words, stdin=terminal, stdout=terminal, stderr=terminal, start_new_session=True,
+                                     preexec_fn=prepare)
+            self.addCleanup(guard.wait), self.addCleanup(guard.kill)
+            os.close(terminal)
+            until(lambda: b"joined" in os.read(master, 1000), "joined")
+            os.close(master)
+            if not ignores:
+                self.assertEqual(guard.wait(WAIT), 0)
+                continue
+            self.restart()  # which it has to tell of
+            time.sleep(2)
+            self.assertIsNone(guard.poll())
 
     def test_ends_by_sigterm_and_says_what_is_wrong(self):
         guard = self.starts("guard.py")
