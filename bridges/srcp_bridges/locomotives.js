@@ -37,9 +37,12 @@ async function drive(key, change) {
   loco.busy = true;
   while (loco.want && devices.get(key) === loco) {
     const { mode, v, seen } = loco.want, v_max = steps(loco);
+    let isTold = false;                         // then what the row says may be of another, who was later
+    loco.comes = row => isTold ||= row.mode === mode && row.v === v && row.v_max === v_max;
     loco.want = null;
     const reply = await ask(key, "/command", `SET ${bus} GL ${address} ${mode} ${v} ${v_max}`, { seen });
-    if (reply.startsWith("200") && seen === loco.stops) loco.does = { ...loco.does, mode, v, v_max, way: mode };
+    if (isTold || !reply.startsWith("200") || seen !== loco.stops) continue;
+    loco.does = { ...loco.does, mode, v, v_max, way: mode };
   }
   loco.busy = false;
   redraw([key]);

@@ -18,6 +18,7 @@ function apply({ key: [bus, group, address, part], row, ...beside }) { // row is
   devices.set(key, device);
   if (typeof part === "number") (device.ports ??= {})[part] = row;
   else device[part] = part === "does" ? { ...row, way: beside.way } : row;
+  if (row && part === "does") device.comes?.(row);
   if ("lies" in beside) device.lies = beside.lies;
   if ("stops" in beside) counted(key, device, beside.stops);
   redraw([key]);

@@ -177,6 +177,20 @@ class WebInChromium(ChromiumCase):
         until(lambda: self.shown("1 GL 3") == "0", "it shows the stop")
         self.slide("1 GL 3", 20), self.has("100 INFO 1 GL 3 0 20 28 0 1")
 
+    def test_in_chromium_a_reply_that_is_late(self):
+        """What another has the locomotive do meanwhile stays on the page, and `−` makes that slower."""
+        self.browser.call("Page.addScriptToEvaluateOnNewDocument", source=HELD)
+        self.drives(GL3=(1, 0))
+        self.opens("1 GL 3")
+        self.js("window.holds = 'replies'")
+        self.slide("1 GL 3", 24), self.has("100 INFO 1 GL 3 1 24 28")
+        self.throttle.order("SET 1 GL 3 1 4 28")
+        until(lambda: self.shown("1 GL 3") == "▶ 4", "the page shows what the other had it do")
+        self.js("(window.holds = null, window.held.forEach(goes => goes()))")
+        time.sleep(0.5)
+        self.assertEqual(self.shown("1 GL 3"), "▶ 4")
+        self.press("1 GL 3", "−"), self.has("100 INFO 1 GL 3 1 3 28")
+
     def test_in_chromium_a_station_that_is_away(self):
         self.drives(GL3=(1, 9))
         self.throttle.order("SET 1 POWER OFF no station")
@@ -473,6 +487,17 @@ FINGER = """((slider, moves) => {
   tells('pointerup', ...moves.at(-1));
   return +slider.value;
 })"""
+
+HELD = """(real => {
+  window.held = [];
+  const wait = () => new Promise(goes => window.held.push(goes));
+  window.fetch = async (path, words) => {
+    if (window.holds === 'requests') await wait();
+    const answer = await real(path, words);
+    if (window.holds === 'replies' && path === '/command') await wait();
+    return answer;
+  };
+})(window.fetch)"""
 
 LATE = """(listen => {
   EventSource.prototype.addEventListener = function (name, take) {
