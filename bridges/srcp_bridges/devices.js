@@ -11,7 +11,8 @@ const PULSE = 250;                              // milliseconds of a turnout's c
 export async function put(key, ports, port, words) {
   const [bus, , address] = key.split(" ");
   for (const other of Object.keys(ports)) if (other !== port && ports[other].value) {
-    await ask(key, "/command", `SET ${bus} GA ${address} ${other} 0 -1`, words);
+    const reply = await ask(key, "/command", `SET ${bus} GA ${address} ${other} 0 -1`, words);
+    if (!reply.startsWith("200")) return reply;
   }
   const time = Object.keys(ports).length > 2 ? -1 : PULSE;
   return ask(key, "/command", `SET ${bus} GA ${address} ${port} 1 ${time}`, words);

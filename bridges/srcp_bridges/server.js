@@ -6,7 +6,11 @@ import { sentence, text } from "./texts.js";
 export let session = null;                      // of this page alone, once it has taken something
 let page = "none", line = Promise.resolve(), stops = 0;
 
-export function joined(key) { [page, session] = [key, null]; }
+// What this page still wanted before it was lost is not wanted any more: all that it drove stands.
+export function joined(key) {
+  [page, session] = [key, null];
+  drop();
+}
 
 export async function post(path, body = "", headers = {}) {
   try {

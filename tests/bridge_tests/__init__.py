@@ -53,7 +53,7 @@ def cases_of(*kinds):
 
 from .test_box import Box  # noqa: E402
 from .test_broker import MqttBesideOthers, MqttWithLimits, MqttWithTls  # noqa: E402
-from .test_chromium import WebByTouch, WebInChromium, WebInGerman, WebWithBeats  # noqa: E402
+from .test_chromium import WebByTouch, WebInChromium, WebInGerman, WebWithBeats, WebWithSilence  # noqa: E402
 from .test_dcc_ex import DccEx, DccExWithHands, DccExWithLosses  # noqa: E402
 from .test_entrance import Entering, WebBesideManyConnections, WebInTheNetwork, WebWithAWord  # noqa: E402
 from .test_doctor import Doctor  # noqa: E402
@@ -79,8 +79,8 @@ from .test_z21 import Z21, Z21WithHands, Z21WithLosses  # noqa: E402
 
 BRIDGE_CASES = cases_of(Readme, Following, MqttWithAWrongBroker, Stopping, Mqtt, MqttForHomeAssistant,
                         MqttWithPersistence, MqttBesideOthers, MqttWithLimits, MqttWithTls, Orders, Payloads,
-                        WebInChromium, WebByTouch, WebInGerman, WebWithBeats, Web, WebThatSleeps, WebWithAWord,
-                        WebWithManyPages, WebWithSilentPages, WebBesideManyConnections, WebInTheNetwork, Entering,
+                        WebInChromium, WebByTouch, WebInGerman, WebWithBeats, WebWithSilence, Web, WebThatSleeps,
+                        WebWithAWord, WebWithManyPages, WebWithSilentPages, WebBesideManyConnections, WebInTheNetwork, Entering,
                         WiThrottle, WiThrottleStops, WiThrottleWithBeats, WiThrottleWithRoutes, Srcpd, SrcpdWithADriver,
                         DccEx, DccExWithLosses, DccExWithHands, HandsBeforeStops, Z21, Z21WithLosses, Z21WithHands,
                         DccExWithPrograms, Z21WithPrograms, Programming, Doctor, Guard, Keep, Box, Log, Parsing, Plans,

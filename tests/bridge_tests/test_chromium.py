@@ -7,7 +7,7 @@ import time
 from pathlib import Path
 
 from .browser import Navigated, started
-from .common import LAYOUT, connects, free_port, new_folder, rows, until
+from .common import LAYOUT, connects, free_port, new_folder, rows, stamped_lines, until
 from .test_web import Events, WebCase
 
 
@@ -453,6 +453,30 @@ class WebWithBeats(ChromiumCase):
         self.slide("1 GL 3", 9), self.has("100 INFO 1 GL 3 1 9 28")
         time.sleep(21)
         self.has("100 INFO 1 GL 3 1 9 28")
+
+
+class WebWithSilence(ChromiumCase):
+    silence = 3
+
+    def test_in_chromium_a_page_that_was_silent(self):
+        """What was asked of it before it counted as gone is not done, and what is asked of it then waits for nothing."""
+        self.browser.call("Page.addScriptToEvaluateOnNewDocument", source=HELD)
+        self.drives(GL3=(1, 0), GL5=(1, 0))
+        self.throttle.order("INIT 1 GA 1 N", "SET 1 GA 1 0 1 -1")
+        self.opens("1 GL 3", "1 GL 5", "1 GA 1")
+        self.press("1 GL 5", "+"), self.has("100 INFO 1 GL 5 1 1 28")
+        self.js("window.holds = 'requests'")
+        self.press("1 GL 3", "+"), self.press("1 GL 5", "+"), self.press("1 GA 1", "branch")
+        until(lambda: "silent" in self.web.told(), "it counts as gone")
+        self.js("window.holds = null")
+        until(lambda: self.js("document.getElementById('state').textContent") == "Layout", "it has joined again")
+        self.has("100 INFO 1 GL 5 1 0 28")
+        until(lambda: self.has_card("1 GL 3"), "its card is there")
+        self.press("1 GL 3", "+"), self.has("100 INFO 1 GL 3 1 1 28")
+        before = [line for line in stamped_lines(self.server.port) if " 1 G" in line]
+        self.js("window.held.forEach(goes => goes())")
+        time.sleep(1)
+        self.assertEqual([line for line in stamped_lines(self.server.port) if " 1 G" in line], before)
 
 
 CONTRAST = """(() => {
