@@ -185,7 +185,8 @@ class Web:
         """Sends a page all rows and each change, until it is gone, silent, or too far behind."""
         page, key = Page(self.mirror, browser), secrets.token_hex(16)
         first = event("page", {"key": key, "names": self.names, "functions": self.plan.functions,
-                               "plan": self.plan.drawing}) + event("here", self.mirror.here)
+                               "plan": self.plan.drawing, "silence": self.asked.silence})
+        first += event("here", self.mirror.here)
         first += event("leftOut", self.left_out)
         rows = [row_event(self.mirror, *item) for item in self.mirror.rows.items()]
         writer.write("".join([EVENTS, first, *rows]).encode())

@@ -3,6 +3,7 @@ import { done, stopSent, tell } from "./bar.js";
 import { devices, name, redraw } from "./layout.js";
 import { sentence, text } from "./texts.js";
 
+const LATE = 2000;                              // milliseconds until a STOP ALL without an answer is told as failed
 export let session = null;                      // of this page alone, once it has taken something
 let page = "none", line = Promise.resolve(), stops = 0;
 
@@ -52,11 +53,14 @@ export function drop() {
 
 export async function stopAll() {
   drop();
+  const failed = why => tell(text("stopFailed", { why }), { seconds: 60 });
   for (let tries = 3; tries; tries--) {
+    const late = setTimeout(() => failed(sentence("no answer", text("layout"))), LATE);
     const { reply, faults = [] } = await post("/stop");
+    clearTimeout(late);
     if (reply === "200 OK") return stopSent();
     const why = faults.map(([key, reply]) => sentence(reply, name(key))).join(" ") || sentence(reply, text("layout"));
-    tell(text("stopFailed", { why }), { seconds: 60 });
+    failed(why);
     await new Promise(then => setTimeout(then, 500));
   }
 }

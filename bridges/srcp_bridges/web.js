@@ -30,28 +30,39 @@ function counted(key, loco, stops) {
 
 const events = new EventSource("/events");
 const on = (name, take) => events.addEventListener(name, e => take(JSON.parse(e.data)));
-let state = "joining", isHere = false;
+let state = "joining", isHere = false, here = false, silence = 10, deaf = null;
 function shown(key, here) {
   [state, isHere] = [key, here];
   $("state").textContent = text(state);
   document.body.classList.toggle("away", !isHere);
 }
-on("page", ({ key, names, functions, plan }) => {  // this page has joined, or joined again: all rows come
+function hears() {                              // what this page shows may be of before, once no beat comes
+  clearTimeout(deaf);
+  deaf = setTimeout(() => shown("programAway", false), silence * 1000);
+}
+on("page", ({ key, names, functions, plan, silence: seconds }) => {  // this page has joined (again): all rows come
+  silence = seconds;
+  hears();
   joined(key);
   called(names, functions);
   drawPlan(plan);
   for (const key of [...devices.keys()]) forget(key);
 });
-on("here", here => shown(here ? "layout" : "serverAway", here));
+const showHere = () => shown(here ? "layout" : "serverAway", here);
+on("here", is => { here = is; showHere(); });
 on("leftOut", leaveOut);
 on("row", apply);
-on("beat", () => post("/alive"));
+on("beat", () => {
+  post("/alive");
+  hears();
+  if (state === "programAway") showHere();
+});
 on("stop", counts => {                          // a STOP ALL, whoever pressed it
   drop();
   for (const [key, stops] of Object.entries(counts)) if (devices.has(key)) counted(key, devices.get(key), stops);
   stopSent();
 });
-on("elsewhere", () => { events.close(); shown("tooManyTabs", false); });
+on("elsewhere", () => { events.close(); clearTimeout(deaf); shown("tooManyTabs", false); });
 async function again() {                        // once web.py answers, and has a place for this page
   const answer = await fetch("/").catch(() => null);
   if (answer && answer.status !== 503) location.reload();

@@ -80,8 +80,8 @@ from .test_z21 import Z21, Z21WithHands, Z21WithLosses  # noqa: E402
 BRIDGE_CASES = cases_of(Readme, Following, MqttWithAWrongBroker, Stopping, Mqtt, MqttForHomeAssistant,
                         MqttWithPersistence, MqttBesideOthers, MqttWithLimits, MqttWithTls, Orders, Payloads,
                         WebInChromium, WebByTouch, WebInGerman, WebWithBeats, WebWithSilence, Web, WebThatSleeps,
-                        WebWithAWord, WebWithManyPages, WebWithSilentPages, WebBesideManyConnections, WebInTheNetwork, Entering,
-                        WiThrottle, WiThrottleStops, WiThrottleWithBeats, WiThrottleWithRoutes, Srcpd, SrcpdWithADriver,
-                        DccEx, DccExWithLosses, DccExWithHands, HandsBeforeStops, Z21, Z21WithLosses, Z21WithHands,
-                        DccExWithPrograms, Z21WithPrograms, Programming, Doctor, Guard, Keep, Box, Log, Parsing, Plans,
+                        WebWithAWord, WebWithManyPages, WebWithSilentPages, WebBesideManyConnections, WebInTheNetwork,
+                        Entering, WiThrottle, WiThrottleStops, WiThrottleWithBeats, WiThrottleWithRoutes, Srcpd,
+                        SrcpdWithADriver, DccEx, DccExWithLosses, DccExWithHands, HandsBeforeStops, Z21, Z21WithLosses,
+                        Z21WithHands, DccExWithPrograms, Z21WithPrograms, Programming, Doctor, Guard, Keep, Box, Log, Parsing, Plans,
                         PlanInChromium, LargePlanInChromium, PlanInGerman, WebBesideADriver)

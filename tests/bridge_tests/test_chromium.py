@@ -2,6 +2,7 @@
 import contextlib
 import os
 import re
+import signal
 import socket
 import time
 from pathlib import Path
@@ -477,6 +478,22 @@ class WebWithSilence(ChromiumCase):
         self.js("window.held.forEach(goes => goes())")
         time.sleep(1)
         self.assertEqual([line for line in stamped_lines(self.server.port) if " 1 G" in line], before)
+
+    def test_in_chromium_a_program_that_hangs(self):
+        """STOP ALL says that nobody has answered it, and the page that it may show what was."""
+        self.drives(GL3=(1, 9))
+        self.opens("1 GL 3")
+        state = "document.getElementById('state').textContent"
+        self.web.send(signal.SIGSTOP)
+        self.addCleanup(self.web.send, signal.SIGCONT)
+        self.browser.presses("Escape", windowsVirtualKeyCode=27)
+        failed = ["STOP ALL FAILED. Layout: web.py does not answer.", "failed"]
+        until(lambda: self.told() == failed, "STOP ALL is told as what has failed")
+        until(lambda: self.js(state) == "web.py is away", "the page says that it hears nothing")
+        self.has("100 INFO 1 GL 3 1 9 28")
+        self.web.send(signal.SIGCONT)
+        self.has("100 INFO 1 GL 3 1 0 28")
+        until(lambda: self.js(state) == "Layout" and self.shown("1 GL 3") == "0", "the page is back")
 
 
 CONTRAST = """(() => {
