@@ -151,8 +151,11 @@ class Web:
     async def obey(self, path, key, body, seen=0):
         """Does what a page asks for; returns status, kind and body of the answer."""
         page, numbers = self.pages.get(key), [int(word) for word in body.split() if word.isdecimal()]
+        now = asyncio.get_running_loop().time()
+        if page and now > page.heard + self.asked.silence:
+            page = None  # it counts as gone, or this program slept: what it asked for then is not wanted now
         if page:
-            page.heard = asyncio.get_running_loop().time()
+            page.heard = now
         if path == "/stop" and not body:  # also of a page that is about to join again
             faults = await self.stop_all()
             whose = [fault.split(": ", 1) for fault in faults if ": " in fault]

@@ -7,6 +7,7 @@ import re
 import signal
 import socket
 import threading
+import time
 from pathlib import Path
 
 from .common import WAIT, Case, connects, free_port, new_folder, parsed, rows, sessions, until
@@ -220,7 +221,7 @@ class Web(WebCase):
 
         async def main():
             asked = argparse.Namespace(host="127.0.0.1", port=self.server.port, again=0.1, names=None, plan=None,
-                                       bind="127.0.0.1", word=None)
+                                       bind="127.0.0.1", word=None, silence=10.0)
             site = web.Web(asked)
             following = asyncio.create_task(site.mirror.run())
             while not site.mirror.here:
@@ -440,6 +441,24 @@ class WebWithSilentPages(WebCase):
         self.assertEqual(page.post("SET 1 GL 3 1 9 28"), "404")
         self.assertNotIn("END", other.events)
         self.has("100 INFO 1 GL 4 1 9 28")
+
+    def test_what_was_asked_while_it_slept(self):
+        """If it slept for as long as makes a page silent, that was asked of it long ago; but a stop is a stop."""
+        self.throttle.order("INIT 1 GL 3 N 1 28 2", "INIT 1 GL 4 N 1 28 2", "SET 1 GL 4 1 9 28")
+        for _ in range(3):  # whichever comes first, the request or that the page is silent
+            page = Events(self.port)
+            asks, stops = page.connect(), page.connect()  # which are open already, as a browser's are
+            for connection in (asks, stops):
+                connection.request("POST", "/alive", "", {"X-Page": page.key})
+                connection.getresponse().read()
+            self.web.send(signal.SIGSTOP)
+            asks.request("POST", "/command", "SET 1 GL 3 1 9 28", {"X-Page": page.key})
+            stops.request("POST", "/stop", "", {"X-Page": page.key})
+            time.sleep(2.5)
+            self.web.send(signal.SIGCONT)
+            self.assertEqual([connection.getresponse().status for connection in (asks, stops)], [404, 200])
+        self.has("100 INFO 1 GL 3 1 0 0", "100 INFO 1 GL 4 1 0 28")
+
 
 
 class WebThatSleeps(WebCase):
