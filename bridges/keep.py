@@ -51,7 +51,7 @@ def device_of(command):
 
 
 def makes(command):
-    return command.upper().startswith("INIT ")
+    return command.upper().split()[:1] == ["INIT"]
 
 
 class Keeper:
@@ -106,7 +106,7 @@ class Keeper:
             await session.ask(command)
         except Refused as reply:
             self.refused(command, reply)
-        await asyncio.sleep(TOGETHER if " GA " in command.upper() else 0)
+        await asyncio.sleep(TOGETHER if command.upper().split()[2:3] == ["GA"] else 0)
 
     def refused(self, command, why):
         """Says so, and keeps FILE as it is now in FILE~, since the command will not be written again."""

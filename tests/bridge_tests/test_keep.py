@@ -161,6 +161,16 @@ class Keep(Case):
         self.assertIn(b"INIT 9 GL 1 P\n", open(self.path + "~", "rb").read())
         self.assertEqual(self.keep.told().count("server: joined"), 1)
 
+    def test_a_file_that_a_person_has_edited(self):
+        """Its words may have any spaces and tabs between them, and before them, as at the server."""
+        with open(self.path, "w") as file:
+            file.write("  INIT 1 GL 3 N 1 28 5\n\tSET 1 GL 3 0 0 28 1\nINIT\t1  GL 4 N 1 28 1\r\n"
+                       "init 1\tGA\t5 n\nset 1\tGA\t5 0 0 -1\nset 1\tGA\t5 1 0 -1\n")
+        self.start()
+        self.has("100 INFO 1 GL 3 0 0 28 1 0 0 0 0", "101 INFO 1 GL 4 N 1 28 1", "101 INFO 1 GA 5 N")
+        self.stays_kept(["INIT 1 GL 3 N 1 28 5", "SET 1 GL 3 0 0 28 1 0 0 0 0", "INIT 1 GL 4 N 1 28 1",
+                         "SET 1 GL 4 1 0 0 0", "INIT 1 GA 5 N", "SET 1 GA 5 0 0 -1", "SET 1 GA 5 1 0 -1"])
+
     def test_a_file_that_cannot_be_read_ends_it(self):
         os.mkdir(self.path)
         self.start()
