@@ -10,7 +10,7 @@ import asyncio
 import os
 import shutil
 
-from srcp_bridges.program import arguments, run, say
+from srcp_bridges.program import CannotGoOn, arguments, run, say
 from srcp_bridges.rows import EMERGENCY_STOP, FORWARD, Refused, position
 from srcp_bridges.srcp import Mirror
 
@@ -92,7 +92,8 @@ class Keeper:
             if device and makes(command) and not await self.mirror.has(device):
                 absent.add(device)
             if device in absent or self.power and device and device[1] == "POWER":
-                await self.order(session, command)
+                if not await self.order(session, command) and makes(command):
+                    absent.discard(device)  # it is not made
                 ordered.add(device)
             elif not device:
                 self.refused(command, "names no device")
@@ -102,11 +103,13 @@ class Keeper:
                 await asyncio.sleep(SOON)
 
     async def order(self, session, command):
+        """Returns whether the server has carried out a command."""
         try:
             await session.ask(command)
         except Refused as reply:
-            self.refused(command, reply)
+            return self.refused(command, reply)
         await asyncio.sleep(TOGETHER if command.upper().split()[2:3] == ["GA"] else 0)
+        return True
 
     def refused(self, command, why):
         """Says so, and keeps FILE as it is now in FILE~, since the command will not be written again."""
@@ -135,11 +138,14 @@ class Keeper:
 
     def write(self, commands):
         """Puts the commands in FILE: all of them, or, if the machine fails meanwhile, those that stood there."""
-        with open(self.path + ".new", "w", encoding="latin-1") as file:
-            file.writelines(command + "\n" for command in commands)
-            file.flush()
-            os.fsync(file.fileno())
-        os.replace(self.path + ".new", self.path)
+        try:
+            with open(self.path + ".new", "w", encoding="latin-1") as file:
+                file.writelines(command + "\n" for command in commands)
+                file.flush()
+                os.fsync(file.fileno())
+            os.replace(self.path + ".new", self.path)
+        except OSError as fault:  # that of a full disk names no file
+            raise CannotGoOn(f"{self.path}: cannot be written: {fault.strerror}") from None
         self.written = commands
 
 

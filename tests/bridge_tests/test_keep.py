@@ -147,6 +147,7 @@ class Keep(Case):
         self.throttle.order("TERM 1 GA 6")
         self.assertEqual(self.keep.process.wait(20), 1)
         self.assertEqual(self.text(), KEPT)
+        self.assertIn(f"-- {self.path}: cannot be written: Is a directory\n", self.keep.told())
 
     def test_power_and_what_is_refused(self):
         with open(self.path, "wb") as file:
@@ -160,6 +161,7 @@ class Keep(Case):
                                                        b"SET 1 GL 3 1 0 0 0 0 0 0 0\n")
         self.assertIn(b"INIT 9 GL 1 P\n", open(self.path + "~", "rb").read())
         self.assertEqual(self.keep.told().count("server: joined"), 1)
+        self.assertIn("made 1 devices", self.keep.told())
 
     def test_a_file_that_a_person_has_edited(self):
         """Its words may have any spaces and tabs between them, and before them, as at the server."""
