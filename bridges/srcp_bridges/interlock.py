@@ -38,7 +38,10 @@ class RoutePlan:
         if done.returncode:
             found = FAULT.search(done.stderr)
             raise Wrong(f"--plan {path}: {found[1] if found else f'{program} ended with status {done.returncode}'}")
-        document: dict[str, Any] = tomllib.loads(Path(path).read_text())
+        try:
+            document: dict[str, Any] = tomllib.loads(Path(path).read_text("utf-8"))
+        except ValueError as fault:  # the program takes a mark of the byte order before it
+            raise Wrong(f"--plan {path}: {fault}") from None
         routes, self.bus = document.get("route", []), document["bus"]
         self.names: dict[int, str] = {route["number"]: str(route.get("name", "")) for route in routes}
         self.turnouts: dict[int, set[Accessory]] = {

@@ -322,7 +322,10 @@ class Box(Case):
         """It tells so in one line."""
         wrong = Path(new_folder(), "plan.toml")
         wrong.write_text("bus = 3\n[[route]]\nnumber = 1\nturnouts = [[1, 1]]\n")
-        for plan, other in ((wrong, common.SERVER), ("no", common.SERVER), (PLAN, "no"), (PLAN, "/bin/false")):
+        marked = Path(new_folder(), "marked.toml")  # as an editor of Windows writes it
+        marked.write_text("\ufeff" + Path(PLAN).read_text("utf-8"), "utf-8")
+        for plan, other in ((wrong, common.SERVER), (marked, common.SERVER), ("no", common.SERVER), (PLAN, "no"),
+                            (PLAN, "/bin/false")):
             box = program("box.py", "--plan", plan, "--program", other)
             self.assertEqual(box.process.wait(WAIT), 2)
             about = f"--program {other}" if other == "no" else f"--plan {plan}"
