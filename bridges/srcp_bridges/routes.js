@@ -27,6 +27,7 @@ export function choose(element) {
   const route = between(from, element);
   if (!route) return tell(text("noRoute", { from: from.text || from.name, to: element.text || element.name }));
   if (isSet(route)) return tell(text("isSet", route), { failed: false });
+  tell("", { failed: false });                  // its end is chosen
   order(route, "1");
 }
 

@@ -6,7 +6,7 @@ from pathlib import Path
 from .browser import started
 from .common import TOP, new_folder, rows, until
 from .large_plan import large_plan
-from .test_chromium import CONTRAST, SMALL, ChromiumCase
+from .test_chromium import CONTRAST, HELD, SMALL, ChromiumCase
 
 LAYOUT = """port = {port}
 [[bus]]
@@ -125,7 +125,11 @@ class PlanInChromium(PlanCase):
         self.clicks_on("W", "W")
         until(lambda: self.js(marks.format("chosen")) == "", "nothing is chosen")
         self.assertFalse([row for row in rows(self.server.port) if row.startswith("100 INFO 3 GA") and row[-1] == "1"])
-        self.clicks_on("W", "P")
+        self.js(HELD + ", window.holds = 'replies'")
+        self.clicks("W"), self.tells("From West: choose where the route ends.")
+        self.clicks("P"), until(lambda: self.js("window.held.length"), "it is asked for")
+        self.assertEqual(self.told(), ["", ""])  # and so it stays if the route is set before the reply comes
+        self.js("(window.holds = null, window.held.forEach(goes => goes()))")
         self.tells("The route West to track 1 is asked for.")
         self.route_is("West to track 1", "waits")
         self.assertEqual((self.drawn("asked"), self.drawn("set")), (5, 0))
