@@ -114,7 +114,7 @@ class Chain:
         if not (told := station["told"].get(str(self.address))):
             raise Broken("the station was told nothing of it", "drive it once more, and read what its driver says")
         speed, way, moment = told
-        return (f"{speed} of {TOP}, {'forward' if way else 'backward'}, {time.time() - moment:.0f} s ago."
+        return (f"{speed} of {TOP}, {'forward' if way else 'backward'}, {time.monotonic() - moment:.0f} s ago."
                 " If it stands still, look at rails, decoder and address")
 
 

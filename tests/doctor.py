@@ -33,7 +33,7 @@ def ran(environment, file, *words):
 
 def station(**how):
     return {"bus": 1, "name": "/dev/ttyACM0", "here": True, "slots": 50, "taken": 1, "left_out": {},
-            "told": {"3": [60, 1, time.time()]}} | how
+            "told": {"3": [60, 1, time.monotonic()]}} | how
 
 
 def doctor_names_the_first_broken_link(program):
@@ -92,7 +92,7 @@ def doctor_tells_how_each_link_is(program):
             "6 command: drive backward at 12 of 28", "7 driver: it drives bus 1",
             "8 station: /dev/ttyACM0 answers, and has 50 slots, of which 1 are taken",
             "9 told: 60 of 126, forward, N s ago"]
-    got = [re.sub(r" \d+ s ago\..*", " N s ago", line) for line in lines]
+    got = [re.sub(r" \d{1,3} s ago\..*", " N s ago", line) for line in lines]
     return None if (got, status) == (want, 0) else f"got {got}, {status}"
 
 

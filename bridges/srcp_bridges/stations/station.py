@@ -141,7 +141,7 @@ class Station:
         (kind, *numbers), value = found
         if kind == "cab":
             speed, way = value
-            self.driven[numbers[0]] = speed, way, time.time()
+            self.driven[numbers[0]] = speed, way, time.monotonic()  # which is that of all programs of this machine
         return True
 
     def telling(self, part, value):
