@@ -308,6 +308,10 @@ class Hands(StationCase):
         self.station.hand(77, speed=40)  # which the registry does not have
         self.drives()
         self.lacks("101 INFO 1 GL 77")
+        self.throttle.order("INIT 1 GL 77 N 1 126 5")
+        self.track(lambda s: s.cabs[77] == (0, 1), "it stands, as its new row says")
+        self.station.hand(77, speed=41)
+        self.has("100 INFO 1 GL 77 1 41 126")
 
     def test_both_drive_at_once_and_come_to_rest(self):
         self.station.late = 0.1

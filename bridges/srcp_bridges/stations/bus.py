@@ -74,7 +74,7 @@ class Bus:
         elif row.v:
             self.holds.hold(part, row, "")
         if before is None:
-            return self.track.mark_locomotive(address)
+            return self.track.take_in(address)
         self.track.mark(part)
         for number, (old, new) in enumerate(zip(before.functions, row.functions)):
             if old != new:

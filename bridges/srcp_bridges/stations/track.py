@@ -110,6 +110,12 @@ class Track:
         for part in [("cab", address), *functions, ("forget", address)]:
             self.mark(part)
 
+    def take_in(self, address):
+        """A locomotive is made that a hand may have driving already: the station is told to do as its row says."""
+        if speed := self.others.pop(address, 0):
+            self.told["cab", address] = speed, None
+        self.mark_locomotive(address)
+
     def mark_all(self):
         ours = [key for key in self.mirror.rows if key[0] == self.bus]
         self.mark(POWER)
