@@ -124,6 +124,8 @@ class WebInChromium(ChromiumCase):
             self.browser.presses("ArrowLeft", windowsVirtualKeyCode=37)
         self.has("100 INFO 1 GL 3 1 25 28")
         self.browser.presses("Home", windowsVirtualKeyCode=36), self.has("100 INFO 1 GL 3 1 0 28")
+        self.browser.presses("PageUp", windowsVirtualKeyCode=33), self.has("100 INFO 1 GL 3 1 3 28")
+        self.browser.presses("End", windowsVirtualKeyCode=35), self.has("100 INFO 1 GL 3 1 28 28")
 
     def test_in_chromium_stop_all(self):
         """Neither what the page still wanted nor a finger that moves on undoes it, and it keeps the direction."""
