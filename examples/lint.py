@@ -124,7 +124,11 @@ def fault_of_port(port):
 
 def parsed(content):
     """Returns the document. ValueError if it is no TOML, or has a number of more than 64 bits."""
-    document = tomllib.loads(re.sub("[\udc80-\udcff]", "\0", content))  # no UTF-8: refused as NUL is
+    if found := re.search("[\udc80-\udcff]", content):  # a byte that is no text
+        before = content[:found.start()]
+        line, column = before.count("\n") + 1, found.start() - before.rfind("\n")
+        raise ValueError(f"This byte is no UTF-8 (at line {line}, column {column}): save the file as UTF-8")
+    document = tomllib.loads(content)
     json.loads(json.dumps(document, default=str), parse_int=lambda text: NUMBERS_OF_TOML.index(int(text)))
     return document
 

@@ -86,7 +86,7 @@ def lint_hints_at_what_was_meant(_):
 
 
 def lint_tells_where_a_document_is_no_toml(_):
-    places = {b"port = 4303\n[[bus]\n": "line 2, column 6", b"bus = []\n# \xff\n": "line 2, column 3"}
+    places = {b"port = 4303\n[[bus]\n": "line 2, column 6", b"bus = []\n# \xff\n": "no UTF-8 (at line 2, column 3)"}
     for document, place in places.items():
         lines, status = linted(document)
         if place not in lines[0] or lines[1:] != ["srcp_server: config: not TOML"] or status != 2:
