@@ -107,7 +107,8 @@ class Keeper:
         try:
             await session.ask(command)
         except Refused as reply:
-            return self.refused(command, reply)
+            self.refused(command, reply)
+            return False
         await asyncio.sleep(TOGETHER if command.upper().split()[2:3] == ["GA"] else 0)
         return True
 

@@ -76,13 +76,15 @@ def arguments(about):
 
 
 def run(program):
-    """Runs a program. Exit status 0: it was ended by SIGTERM, by Ctrl-C, or by the end of its terminal (SIGHUP), which one
-    that nohup starts ignores; 1: it cannot go on; 2: its words are wrong."""
+    """Runs a program. Exit status 0: it was ended by SIGTERM, by Ctrl-C or by the end of its terminal (SIGHUP); 1: it
+    cannot go on; 2: its words are wrong. One that nohup starts ignores the end of its terminal."""
     async def until_told():
         task = asyncio.current_task()
         assert task
-        ignores = signal.getsignal(signal.SIGHUP) is signal.SIG_IGN
-        for number in (signal.SIGTERM, signal.SIGINT) + (signal.SIGHUP,) * (not ignores):
+        ends = [signal.SIGTERM, signal.SIGINT]
+        if signal.getsignal(signal.SIGHUP) is not signal.SIG_IGN:
+            ends.append(signal.SIGHUP)
+        for number in ends:
             asyncio.get_running_loop().add_signal_handler(number, task.cancel)
         await program
 

@@ -30,7 +30,10 @@ function counted(key, loco, stops) {
 
 const events = new EventSource("/events");
 const on = (name, take) => events.addEventListener(name, e => take(JSON.parse(e.data)));
-let state = "joining", isHere = false, here = false, silence = 10, deaf = null;
+let state = "joining", isHere = false;
+let here = false;                               // whether web.py has the server
+let silence = 10;                               // seconds without a beat until web.py counts as away
+let deaf = null;                                // the timer of them
 function shown(key, here) {
   [state, isHere] = [key, here];
   $("state").textContent = text(state);
@@ -40,8 +43,8 @@ function hears() {                              // what this page shows may be o
   clearTimeout(deaf);
   deaf = setTimeout(() => shown("programAway", false), silence * 1000);
 }
-on("page", ({ key, names, functions, plan, silence: seconds }) => {  // this page has joined (again): all rows come
-  silence = seconds;
+on("page", ({ key, names, functions, plan, ...beside }) => {  // this page has joined, or joined again: all rows come
+  silence = beside.silence;
   hears();
   joined(key);
   called(names, functions);

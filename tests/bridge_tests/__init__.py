@@ -83,5 +83,5 @@ BRIDGE_CASES = cases_of(Readme, Following, MqttWithAWrongBroker, Stopping, Mqtt,
                         WebWithAWord, WebWithManyPages, WebWithSilentPages, WebBesideManyConnections, WebInTheNetwork,
                         Entering, WiThrottle, WiThrottleStops, WiThrottleWithBeats, WiThrottleWithRoutes, Srcpd,
                         SrcpdWithADriver, DccEx, DccExWithLosses, DccExWithHands, HandsBeforeStops, Z21, Z21WithLosses,
-                        Z21WithHands, DccExWithPrograms, Z21WithPrograms, Programming, Doctor, Guard, Keep, Box, Log, Parsing, Plans,
-                        PlanInChromium, LargePlanInChromium, PlanInGerman, WebBesideADriver)
+                        Z21WithHands, DccExWithPrograms, Z21WithPrograms, Programming, Doctor, Guard, Keep, Box, Log,
+                        Parsing, Plans, PlanInChromium, LargePlanInChromium, PlanInGerman, WebBesideADriver)

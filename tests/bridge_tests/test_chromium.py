@@ -462,7 +462,7 @@ class WebWithSilence(ChromiumCase):
     silence = 3
 
     def test_in_chromium_a_page_that_was_silent(self):
-        """What was asked of it before it counted as gone is not done, and what is asked of it then waits for nothing."""
+        """What was asked of it before it counted as gone is not done, and what is asked then waits for nothing."""
         self.browser.call("Page.addScriptToEvaluateOnNewDocument", source=HELD)
         self.drives(GL3=(1, 0), GL5=(1, 0))
         self.throttle.order("INIT 1 GA 1 N", "SET 1 GA 1 0 1 -1")

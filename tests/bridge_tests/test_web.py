@@ -460,7 +460,6 @@ class WebWithSilentPages(WebCase):
         self.has("100 INFO 1 GL 3 1 0 0", "100 INFO 1 GL 4 1 0 28")
 
 
-
 class WebThatSleeps(WebCase):
     def test_a_real_overrun(self):
         page = Events(self.port)
