@@ -14,6 +14,8 @@ NAME = 40  # letters of a name that are kept
 WAITING = 1000  # lines that may wait
 AT_ONCE = 32  # lines that are read at once from a phone that has sent too many
 UNREAD = 1 << 20  # bytes that wait for a phone; one that is further behind is gone
+LOOK = 0.25  # seconds between two looks at the clock
+STOPPED = 1.0  # seconds without one after which this program was stopped; what comes in for as long was sent meanwhile
 VANISHED = {socket.TCP_KEEPIDLE: 5, socket.TCP_KEEPINTVL: 2, socket.TCP_KEEPCNT: 3,
             socket.TCP_USER_TIMEOUT: 11000}  # type: ignore[attr-defined]
 STOP_EVERY = "M*A*<;>X"
@@ -29,6 +31,8 @@ class Phone:
         self.writer = writer
         self.driver = Driver(layout.mirror, layout.bus)
         self.watched = False
+        self.looked = asyncio.get_running_loop().time()
+        self.went_on = self.looked - STOPPED
         self.view = View(layout, self.driver.taken, self.say)
         self.words = Words(layout, self.driver, self.view, self.say)
         self.waiting: asyncio.PriorityQueue[Line] = asyncio.PriorityQueue()
@@ -47,11 +51,24 @@ class Phone:
             self.driver.name = "phone " + "".join(letter for letter in text[1:NAME] if letter.isprintable())
             self.say(self.layout.beat())
         elif text != END:
-            line = self.words.line(text)
+            line = self.words.line(text, self.was_stopped())
             if self.waiting.qsize() < (WAITING if line.turn == USUAL else 2 * WAITING):
                 self.waiting.put_nowait(line)
             else:
                 self.say("HMtoo many lines wait")
+
+    async def look_at_the_clock(self):
+        while True:
+            now = asyncio.get_running_loop().time()
+            if now - self.looked > STOPPED:
+                self.went_on = now
+            self.looked = now
+            await asyncio.sleep(LOOK)
+
+    def was_stopped(self):
+        """Returns whether this program has just gone on after a stop."""
+        now = asyncio.get_running_loop().time()
+        return now - self.looked > STOPPED or now - self.went_on < STOPPED
 
     async def next_line(self):
         """Returns the next line. A phone that is silent is stopped, and after a while it counts as gone."""
@@ -117,6 +134,7 @@ class Phone:
             connection.setsockopt(socket.IPPROTO_TCP, option, value)
         self.view.begin()
         self.layout.phones.add(self)
+        looking = asyncio.create_task(self.look_at_the_clock())
         reading = asyncio.create_task(self.read_all())
         try:
             await self.carry_out()
@@ -125,5 +143,6 @@ class Phone:
             pass  # this program is ended: what the phone had taken stands, as ever
         finally:
             self.layout.phones.discard(self)
+            looking.cancel()
             reading.cancel()
             await self.driver.end()

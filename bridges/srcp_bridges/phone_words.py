@@ -18,6 +18,7 @@ URGENT = 0  # what stops goes before what waits
 USUAL = 1
 STOPS = re.compile(r"M(.)A([^<]*)<;>(?:X|I|Q|V-[0-9]{1,5}|V0{1,5})")
 EVERY = "*"  # throttle, or key
+OLD = "not done, since this program was stopped meanwhile"
 POWER = ("", "power")
 
 Which = tuple[str, str]  # a locomotive of a phone, by its throttle and its key: ("0", "S3")
@@ -25,11 +26,13 @@ Which = tuple[str, str]  # a locomotive of a phone, by its throttle and its key:
 
 class Line(NamedTuple):
     """A line of a phone. Lines are carried out as they are sorted. `stops` gives how often others had stopped the
-    locomotive of an address as the line came in."""
+    locomotive of an address as the line came in. `is_old`: this program was stopped then, so others may have stopped
+    what they have stopped after the phone sent the line."""
     turn: int
     number: int
     text: str
     stops: Callable[[int], int]
+    is_old: bool
 
 
 class Words:
@@ -48,18 +51,23 @@ class Words:
         self.momentary: dict[Which, set[int]] = {}  # functions, by locomotive
         self.told: dict[Which, int] = {}  # the stops that the phone was told of, by locomotive
 
-    def line(self, text: str) -> Line:
+    def line(self, text: str, is_old=False) -> Line:
         """Takes note of a line as it comes in. If it stops something, what waits does not start that again."""
         self.lines += 1
         turn = URGENT if (found := STOPS.fullmatch(text)) or text == "PPA0" else USUAL
         if turn == URGENT:
             self.stopped[(found[1], found[2]) if found else POWER] = self.lines
         counted, own = self.layout.mirror.stops.now(), self.own.copy()
-        return Line(turn, self.lines, text, lambda address: counted(self.bus, address) - own[address])
+        return Line(turn, self.lines, text, lambda address: counted(self.bus, address) - own[address], is_old)
 
     def is_late(self, line: Line, *names: Which | int) -> bool:
         """Returns whether the phone itself stopped one of these after it sent the line."""
         return any(self.stopped.get(name, 0) > line.number for name in names)
+
+    def refuse_old(self, line: Line):
+        """Refuses what may not be wanted any more. What stops is wanted."""
+        if line.is_old and line.turn == USUAL:
+            raise Refused(OLD)
 
     async def carry_out(self, line: Line):
         """Carries out a line; tells the phone what is refused."""
@@ -69,8 +77,9 @@ class Words:
             elif line.text in ("PPA0", "PPA1"):
                 await self.power(line)
             elif found := re.fullmatch(r"PTA([TC2])(.*)", line.text):
-                await self.turnout(*found.groups())
+                await self.turnout(line, *found.groups())
             elif line.text.startswith("PRA"):
+                self.refuse_old(line)
                 await self.route(line.text[4:])
         except Refused as reply:
             self.say(f"HM{reply}")
@@ -143,9 +152,11 @@ class Words:
         if line.turn == URGENT:
             await self.stop(address, line, words)
         elif found := re.fullmatch(r"V([0-9]{1,5})|R([01])", words):
+            self.refuse_old(line)
             v, mode = (int(word) if word else None for word in found.groups())
             await self.move(which, line, mode, None if v is None else min(v, TOP))
         elif found := re.fullmatch(r"([FfmM])([01])([0-9]{1,2})", words):
+            self.refuse_old(line)
             await self.function(which, found[1], int(found[3]), int(found[2]))
         else:
             self.answer(which, address, words)
@@ -197,6 +208,7 @@ class Words:
         if line.text == "PPA1" and self.is_late(line, POWER):
             return
         try:
+            self.refuse_old(line)
             await self.driver.ask(f"SET {self.bus} POWER {'ON' if line.text == 'PPA1' else 'OFF'}")
         except Refused:
             self.view.again("power", "POWER", 0)
@@ -211,12 +223,13 @@ class Words:
         await self.driver.ask(f"SET {routes.bus} GA {int(name)} {1 - port} 0 -1")
         await self.driver.ask(f"SET {routes.bus} GA {int(name)} {port} 1 {PULSE}")
 
-    async def turnout(self, what: str, name: str):
+    async def turnout(self, line: Line, what: str, name: str):
         """T throws, C closes, 2 does the other. A name is a number, or one of JMRI's, as LT5."""
         if not (found := re.fullmatch("(?:[A-Z]T)?([0-9]{1,4})", name)):
             raise Refused(f"turnouts are numbers here, not {name}")
         address = int(found[1])
         try:
+            self.refuse_old(line)
             await self.driver.make(self.driver.ask, f"GA {address}", "0", "N")
             thrown = int(what == "T" or what == "2" and self.layout.lies(address) == CLOSED)
             await self.driver.ask(f"SET {self.bus} GA {address} {1 - thrown} 0 -1")

@@ -68,6 +68,29 @@ class WiThrottleStops(WiThrottleCase):
         phone.send("M0A*<;>V20")
         phone.got("M0AS3<;>V20")
 
+    def test_what_was_sent_while_the_program_was_stopped(self):
+        """It may have been sent before a stop of another; but a stop is a stop."""
+        phone = self.phone_with("S3")
+        phone.send("M1+S4<;>S4")
+        phone.got("M1AS4<;>s1")
+        self.throttle.order("INIT 1 GA 7 N")
+        for line in ("M0A*<;>V60", "M0A*<;>R0", "M0A*<;>f10", "PPA1", "PTAT7"):
+            phone.send("M0A*<;>V10", "M1A*<;>V10", "PPA1")
+            self.has("100 INFO 1 GL 3 1 10 126", "100 INFO 1 GL 4 1 10 126", "100 INFO 1 POWER ON")
+            self.bridge.send(signal.SIGSTOP)
+            begin = len(phone.lines)
+            phone.send(line, "M1A*<;>V0")
+            time.sleep(1.5)
+            self.throttle.order("SET 1 POWER OFF")
+            self.bridge.send(signal.SIGCONT)
+            until(lambda: "HMnot done, since this program was stopped meanwhile" in phone.lines[begin:], line)
+            self.has("100 INFO 1 GL 3 1 10 126 0", "100 INFO 1 GL 4 1 0 126", "100 INFO 1 POWER OFF")
+            phone.settled()
+            time.sleep(1)  # what comes in now was sent now
+        self.lacks("100 INFO 1 GA 7 1 1")
+        phone.send("M0A*<;>V20")
+        self.has("100 INFO 1 GL 3 1 20 126")
+
     def test_what_waits_does_not_undo_a_stop_of_others(self):
         phone = self.phone_with("S3")
         phone.send("M1+S3<;>S3")
