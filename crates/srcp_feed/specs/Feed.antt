@@ -1,10 +1,8 @@
 -- What an information session is still to be given, and what becomes of a change that it is told.
-use Rattle.std.specs.Prelude.{◌≡◌, ◌⊎◌, ℕ, Bool, not, ◌&&◌, List, [], ◌∷◌, ◌++◌, map, drop, length, nat_lt}
+use Rattle.std.specs.Prelude.{◌≡◌, Bool, not, ◌&&◌, List, [], ◌∷◌, ◌++◌, map, drop, length, nat_lt}
 use Rattle.std.specs.Prelude.{if◌then◌else◌}
 use Rattle.srcp_info.specs.Limits.{most_waiting}
 use Rattle.srcp_info.specs.Client.{client}
-use Rattle.srcp_info.specs.Line.{line}
-use Rattle.srcp_info.specs.WellFormed.{IsWellFormed}
 use Rattle.srcp_info.specs.declared.change.Change.{Change}
 use Rattle.srcp_info.specs.declared.change.Cursor.{Cursor}
 use Rattle.srcp_info.specs.declared.change.Cursor.TheVariants.{Start}
@@ -64,9 +62,3 @@ after_next rows feed = record { cursor = moved feed.cursor (next_of rows feed); 
 -- a client that is told what was given and then what waits holds the rows that the listing has passed
 abbrev pub HoldsPassed : List Change → Feed → List Shown → Type 0
 HoldsPassed given feed rows = client (given ++ feed.queue) ≡ passed feed.cursor rows
-
--- ---- lines
-
--- the bytes are the line of the change, which is well-formed, or there are none
-abbrev pub IsLineOrNone : List ℕ → Change → Type 0
-IsLineOrNone bytes change = (bytes ≡ []) ⊎ ((bytes ≡ line change) × IsWellFormed change)

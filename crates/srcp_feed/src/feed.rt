@@ -9,8 +9,8 @@ ghost use Rattle.srcp_rules.specs.State.{row_after, shown_rows};
 ghost use Rattle.srcp_feed.specs.Cursor.{concerns, said};
 ghost use Rattle.srcp_feed.specs.Feed.{beginning, told, told_answer, next_of, after_next, HoldsPassed};
 
-use crate::ChangeLine;
-use crate::queue::{Queue, Waiting};
+use crate::queue::Queue;
+use crate::{ChangeLine, Waiting};
 use srcp_info::{Change, Cursor, MOST_WAITING, Row, Shown};
 use srcp_rules::{Memory, Rows};
 use std::alloc::Global;
@@ -99,7 +99,7 @@ impl InfoFeed {
         if self.waiting.is_full() {
             return Told::Overrun;
         }
-        self.waiting.push(change);
+        self.waiting.push(change.waiting());
         Told::Queued
     }
 

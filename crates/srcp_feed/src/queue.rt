@@ -2,12 +2,9 @@
 
 ghost use Rattle.std.specs.Prelude.{◌≡◌, ◌<◌, ◌≤◌, ◌+◌, ◌-◌, [], ◌∷◌, ◌++◌, IfOk, take, drop, length, nat_lt, not};
 ghost use Rattle.std.specs.Prelude.{option_copied, slice_get, vec_capacity};
-ghost use Rattle.srcp_info.specs.Line.{line};
-ghost use Rattle.srcp_info.specs.WellFormed.{IsWellFormed};
-ghost use Rattle.srcp_feed.specs.Feed.{IsLineOrNone};
 
-use crate::ChangeLine;
-use srcp_info::{Change, InfoLine, LONGEST_LINE, MOST_WAITING, read_change, write_change};
+use crate::Waiting;
+use srcp_info::MOST_WAITING;
 use srcp_rules::Memory;
 use std::alloc::Global;
 use std::marker::Model;
@@ -78,7 +75,7 @@ impl Queue {
     }
 
     /// Appends a copy of a change.
-    pub(crate) fn push(&mut self, change: &ChangeLine<'_>)
+    pub(crate) fn push(&mut self, change: &Waiting)
         requires { length self.old < MOST_WAITING }
         ensures { self.new ≡ self.old ++ change.now ∷ [] }
     {
@@ -106,7 +103,7 @@ impl Queue {
 
 /// Puts a copy of a change into the slot `at`, which is in use or the next to come.
 #[inline(always)]
-fn put(slots: &mut Vec<Waiting>, at: usize, change: &ChangeLine<'_>)
+fn put(slots: &mut Vec<Waiting>, at: usize, change: &Waiting)
     requires slot { (at ≤ length slots.old.items) × (at < SLOTS) × (length slots.old.items ≤ SLOTS) }
     requires capacity { SLOTS ≤ vec_capacity slots.old }
     ensures items { take (at + 1) slots.new.items ≡ take at slots.old.items ++ change.now ∷ [] }
@@ -114,9 +111,9 @@ fn put(slots: &mut Vec<Waiting>, at: usize, change: &ChangeLine<'_>)
     ensures capacity { SLOTS ≤ vec_capacity slots.new }
 {
     if at < slots.len() {
-        slots[at].copy_from(change);
+        slots[at] = change.copied();
     } else {
-        slots.push(Waiting::of(change)).unwrap();
+        slots.push(change.copied()).unwrap();
     }
 }
 
@@ -130,80 +127,4 @@ fn move_to_front(slots: &mut Vec<Waiting>, first: usize)
 {
     let (free, waiting) = slots.split_at_mut(first);
     free[..waiting.len()].swap_with_slice(waiting);
-}
-
-/// Holds a waiting change: the line if written, else the change itself. Contracts see the change alone.
-#[derive(Drop)]
-pub struct Waiting {
-    line: InfoLine,
-    // Without meaning if the line was written.
-    change: Change,
-}
-
-impl Model for Waiting {
-    ghost use Rattle.srcp_info.specs.declared.change.Change.{Change};
-    ghost use Rattle.srcp_feed.specs.Feed.{IsLineOrNone};
-    ghost use Rattle.srcp_feed.specs.Waiting.{held};
-
-    ghost Value = { Change };
-
-    ghost view = { λ w. held w.line w.change };
-
-    ghost invariant = { λ w. IsLineOrNone w.line (held w.line w.change) };
-}
-
-impl Waiting {
-    /// Holds a copy of a change and of its line.
-    pub(crate) fn of(change: &ChangeLine<'_>) -> Waiting
-        ensures { result ≡ change.now }
-    {
-        Waiting {
-            line: change.line().copied(),
-            change: *change.change(),
-        }
-    }
-
-    /// Becomes a copy of a change. Copies the change itself only if no line was written.
-    pub(crate) fn copy_from(&mut self, change: &ChangeLine<'_>)
-        ensures { self.new ≡ change.now }
-    {
-        self.line.copy_from(change.line());
-        if self.line.is_empty() {
-            self.change = *change.change();
-        }
-    }
-
-    /// Returns the change, read from the line if a line was written.
-    pub fn change(&self) -> Change
-        ensures { result ≡ self.now }
-    {
-        let len = self.line.len();
-        if len == 0 {
-            self.change
-        } else {
-            match read_change(&self.line.as_slice()[..len - 1]) {
-                Some(change) => change,
-                None => unreachable!(),
-            }
-        }
-    }
-
-    /// Puts the change's line into `to`: a copy, or written there if no line was written.
-    pub fn put_into(&self, to: &mut InfoLine)
-        requires { IsWellFormed self.now }
-        ensures line { to.new ≡ line self.now }
-        ensures most { length to.new ≤ LONGEST_LINE }
-    {
-        to.copy_from(self.line());
-        if to.is_empty() {
-            write_change(&self.change(), to);
-        }
-    }
-
-    /// Lends the line, which has no bytes if no line was written.
-    fn line(&self) -> &InfoLine
-        ensures { IsLineOrNone result.now self.now }
-    {
-        &self.line
-    }
 }
