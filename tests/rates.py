@@ -13,6 +13,9 @@ LINE = len(b"1793674849.260 100 INFO 1 FB 1 1\n")
 GONE = "416 ERROR no data"
 SECONDS_OF_LOAD = 5
 LONGEST_UNTIL_CLOSED = 15
+# For how many milliseconds a panel is kept at least whose socket takes nothing more.
+KEPT = 150
+LOCOMOTIVES = 10_239
 MAKERS = 32
 STOPS = 9
 SILENCE = 0.1
@@ -96,6 +99,56 @@ def panel_that_reads_slower_than_a_line_a_millisecond(program):
     return f"it is not closed in {LONGEST_UNTIL_CLOSED} s" if closed is None else None
 
 
+def answered(asker, command):
+    """Returns the moment of a reply in milliseconds, and its text."""
+    asker.socket.sendall(command.encode() + b"\n")
+    line = asker.line()
+    return moment_of(line), line.split(b" ", 1)[1].decode().strip()
+
+
+def moment_of(line):
+    """Returns the stamp of a line in milliseconds."""
+    return int(line.split(b" ", 1)[0].replace(b".", b""))
+
+
+def moment_of_the_close(asker, session):
+    """Returns the moment of the first reply that says that a session is gone."""
+    end = time.monotonic() + LONGEST_UNTIL_CLOSED
+    while time.monotonic() < end:
+        moment, reply = answered(asker, f"GET 0 SESSION {session}")
+        if reply == GONE:
+            return moment
+        time.sleep(0.002)
+    raise TimeoutError(f"session {session} is not closed in {LONGEST_UNTIL_CLOSED} s")
+
+
+def milliseconds_until_closed(program, locomotives):
+    """Returns for how long a panel that does not read is kept at the least once its socket takes nothing more. That is
+    so from the last change on that it is sent, or from the first change on if its listing fills all buffers. The stamps
+    of the server tell: a busy machine makes that longer, and never shorter."""
+    with served(program) as (port, _):
+        asker = Client(port, "COMMAND")
+        asker.asks_many([f"INIT 1 GL {address} N 1 28 5" for address in range(1, locomotives + 1)])
+        throttles = [Client(port, "COMMAND") for _ in range(4)]
+        panel = Client(port, "INFO")
+        time.sleep(0.5)
+        begun, _ = answered(asker, "CHECK 1 POWER ON")
+        with sending_without_end(throttles, b"SET 1 POWER ON %d\n"):
+            closed = moment_of_the_close(asker, panel.session)
+        told = panel.hears_to_the_end()
+    # The last line may be cut.
+    last = max(moment_of(line) for line in told[:told.rfind(b"\n")].split(b"\n"))
+    return closed - max(begun, last)
+
+
+def panel_whose_socket_takes_nothing_more(program):
+    """It is closed 150 ms later or more beside sessions that send without end, also if it does not read its listing."""
+    for locomotives in (0, LOCOMOTIVES):
+        if (kept := milliseconds_until_closed(program, locomotives)) < KEPT:
+            return f"with {locomotives} locomotives it is closed {kept} ms later"
+    return None
+
+
 def emergency_stop_goes_first(program):
     """Beside a slow panel and sessions that make accessories without end, the stop of a silent session goes first."""
     waits = []
@@ -174,5 +227,5 @@ def falls_heard(panel, most):
 
 RATE_CASES = (panel_that_reads_a_little_faster_than_a_line_a_millisecond,
               panel_that_reads_a_little_faster_than_a_change_a_millisecond,
-              panel_that_reads_slower_than_a_line_a_millisecond, emergency_stop_goes_first,
-              changes_at_one_moment_beside_many, falls_at_a_server_that_stood_still)
+              panel_that_reads_slower_than_a_line_a_millisecond, panel_whose_socket_takes_nothing_more,
+              emergency_stop_goes_first, changes_at_one_moment_beside_many, falls_at_a_server_that_stood_still)
