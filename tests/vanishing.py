@@ -1,4 +1,5 @@
 """What the system holds for peers that do not read, and when a peer is lost whose system answers or takes no more."""
+import re
 import socket
 import struct
 import time
@@ -16,6 +17,11 @@ SMALL = 4096
 ATTACH_FILTER = 26
 LOST_SECONDS = 30
 LINGER_SECONDS = 10
+# How many seconds after its close a panel reads that is in time, and how many one that is late.
+IN_TIME = LINGER_SECONDS - 3
+LATE = LINGER_SECONDS + 2
+# How many bytes its own system holds for a panel that did not read.
+HELD_BY_ITS_OWN = 110_000
 
 
 def vanish(client):
@@ -92,4 +98,48 @@ def panel_that_was_closed_and_does_not_read(program):
     return None if later == 0 < at_once else f"it holds {at_once} bytes, and {LINGER_SECONDS + 2} s later {later}"
 
 
-VANISHING_CASES = (panels_that_do_not_read, peers_that_vanish, panel_that_was_closed_and_does_not_read)
+def panels_that_overran(port, count):
+    """Returns panels that read their listing and no more, once all of them are closed."""
+    throttle = Client(port, "COMMAND")
+    panels = [Client(port, "INFO") for _ in range(count)]
+    for panel in panels:
+        panel.hears_until(b" 1 FB 8 0\n")
+    for first in range(0, 4 * ROUNDS * COMMANDS, COMMANDS):
+        throttle.asks_many([f"SET 1 POWER ON {number}" for number in range(first, first + COMMANDS)])
+        if all(" ERROR " in throttle.asks(f"GET 0 SESSION {panel.session}") for panel in panels):
+            break
+    return panels
+
+
+def sent_to_the_end(panel):
+    """Returns all that comes to a panel, and the name of the fault that ends it, or None if its stream ends."""
+    pieces = [panel.begun]
+    try:
+        while piece := panel.socket.recv(1 << 16):
+            pieces.append(piece)
+    except OSError as fault:
+        return b"".join(pieces), type(fault).__name__
+    return b"".join(pieces), None
+
+
+def panels_that_were_closed_and_read_late(program):
+    """One that reads 7 s after its close is sent first what had been sent before, no change missing, and then the end.
+    One that reads 12 s after its close finds what its own system holds, some 110 KB, and then the connection reset."""
+    with served(program) as (port, _):
+        in_time, late = panels_that_overran(port, 2)
+        closed = time.monotonic()
+        time.sleep(IN_TIME)
+        past, end = sent_to_the_end(in_time)
+        time.sleep(max(closed + LATE - time.monotonic(), 0))
+        held, reset = sent_to_the_end(late)
+    numbers, kept = ([int(number) for number in re.findall(rb" POWER ON (\d+)\n", text)] for text in (past, held))
+    if end or numbers != list(range(len(numbers))) or len(past) < 2 * HELD_BY_ITS_OWN:
+        return f"{IN_TIME} s after its close one is sent {len(past)} bytes with {len(numbers)} changes, then {end}"
+    is_some = HELD_BY_ITS_OWN / 2 < len(held) < 2 * HELD_BY_ITS_OWN
+    if reset != "ConnectionResetError" or kept != numbers[:len(kept)] or not is_some:
+        return f"{LATE} s after its close one is sent {len(held)} bytes with {len(kept)} changes, then {reset}"
+    return None
+
+
+VANISHING_CASES = (panels_that_do_not_read, peers_that_vanish, panel_that_was_closed_and_does_not_read,
+                   panels_that_were_closed_and_read_late)
