@@ -16,11 +16,11 @@ const SLOTS: usize = 2 * MOST_WAITING;
 /// Holds the waiting changes, in the order of their coming, each with its line. Contracts see the list of the changes.
 #[derive(Drop)]
 pub(crate) struct Queue {
-    // The changes from `first` to `end` wait. Once none does, the next one is put into the first slot, which is still
-    // in the processor's cache.
+    // `count` changes wait, from `first` on. Once none does, the next one is put into the first slot, which is still in
+    // the processor's cache.
     slots: Vec<Waiting>,
     first: usize,
-    end: usize,
+    count: usize,
 }
 
 impl Model for Queue {
@@ -31,9 +31,9 @@ impl Model for Queue {
 
     ghost Value = { List Change };
 
-    ghost view = { λ q. drop q.first (take q.end q.slots.items) };
+    ghost view = { λ q. drop q.first (take (q.first + q.count) q.slots.items) };
 
-    ghost invariant = { λ q. (q.first ≤ q.end) × (q.end ≤ q.first + MOST_WAITING) × (q.end ≤ length q.slots.items)
+    ghost invariant = { λ q. (q.count ≤ MOST_WAITING) × (q.first + q.count ≤ length q.slots.items)
         × (length q.slots.items ≤ SLOTS) × (SLOTS ≤ vec_capacity q.slots) };
 }
 
@@ -48,7 +48,7 @@ impl Queue {
         Ok(Queue {
             slots: Vec::with_capacity(alloc, SLOTS)?,
             first: 0,
-            end: 0,
+            count: 0,
         })
     }
 
@@ -57,7 +57,7 @@ impl Queue {
         ensures value { result ≡ length self.now }
         ensures most { result ≤ MOST_WAITING }
     {
-        self.end - self.first
+        self.count
     }
 
     /// Returns whether the queue is full.
@@ -71,7 +71,7 @@ impl Queue {
     pub(crate) fn first(&self) -> Option<&Waiting>
         ensures { option_copied result ≡ slice_get self.now 0 }
     {
-        self.slots[self.first..self.end].first()
+        self.slots[self.first..self.first + self.count].first()
     }
 
     /// Appends a copy of a change.
@@ -79,13 +79,12 @@ impl Queue {
         requires { length self.old < MOST_WAITING }
         ensures { self.new ≡ self.old ++ change.now ∷ [] }
     {
-        if self.end == SLOTS {
+        if self.first + self.count == SLOTS {
             move_to_front(&mut self.slots, self.first);
-            self.end -= self.first;
             self.first = 0;
         }
-        put(&mut self.slots, self.end, change);
-        self.end += 1;
+        put(&mut self.slots, self.first + self.count, change);
+        self.count += 1;
     }
 
     /// Drops the first change.
@@ -94,9 +93,9 @@ impl Queue {
         ensures { self.new ≡ drop 1 self.old }
     {
         self.first += 1;
-        if self.first == self.end {
+        self.count -= 1;
+        if self.count == 0 {
             self.first = 0;
-            self.end = 0;
         }
     }
 }
