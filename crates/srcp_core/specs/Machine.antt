@@ -1,12 +1,12 @@
 -- The model of the code: what each call makes of what is held.
 use Rattle.std.specs.Prelude.{⊤, ◌≡◌, ◌≢◌, ℕ, suc, ◌+◌, ◌-◌, ◌*◌, ◌<◌, ◌≤◌, min, max, Bool, true, false, not}
-use Rattle.std.specs.Prelude.{◌&&◌, ◌||◌, ◌==◌, if◌then◌else◌, List, [], ◌∷◌, ◌++◌, map, drop, length, fold, nat_lt}
+use Rattle.std.specs.Prelude.{◌&&◌, ◌||◌, ◌==◌, if◌then◌else◌, List, [], ◌∷◌, ◌++◌, map, drop, length, fold}
 use Rattle.std.specs.Prelude.{slice_set, Option, Some, None, Ok}
 use Rattle.std.specs.List.{filter_map}
 use Rattle.std.specs.Option.{option_map, option_map_or, option_to_list}
 use Rattle.srcp_core.specs.Limits.{most_connections}
 use Rattle.srcp_info.specs.Limits.{greatest_u64, longest_line, longest_short_reply}
-use Rattle.srcp_info.specs.Limits.{most_in_piece, most_waiting}
+use Rattle.srcp_info.specs.Limits.{most_waiting}
 use Rattle.srcp_info.specs.Line.{reply_line}
 use Rattle.srcp_info.specs.declared.change.Change.{Change}
 use Rattle.srcp_info.specs.declared.change.Reply.{Reply}
@@ -27,8 +27,8 @@ use Rattle.srcp_feed.specs.Cursor.{concerns}
 use Rattle.srcp_feed.specs.Feed.{Feed, beginning, is_full, told, next_of, after_next}
 use Rattle.srcp_feed.specs.declared.feed.Next.{Next}
 use Rattle.srcp_core.specs.Acts.{Act, Says, Sets, Begins, Obeys, Ends, request_as, acts, wants}
-use Rattle.srcp_core.specs.Connection.{is_nil, line_of}
-use Rattle.srcp_core.specs.Course.{welcome}
+use Rattle.srcp_core.specs.Connection.{finish_of, line_of}
+use Rattle.srcp_core.specs.Course.{fault_of, welcome}
 use Rattle.srcp_core.specs.Held.{Place, Held, place_at, at, open_count}
 use Rattle.srcp_core.specs.Under.{denied_by}
 use Rattle.srcp_core.specs.declared.connection.Panel.{Panel}
@@ -39,10 +39,9 @@ use Rattle.srcp_core.specs.declared.line.LineRecord.{LineRecord}
 use Rattle.srcp_core.specs.declared.record.Step.{Step}
 use Rattle.srcp_core.specs.declared.record.Step.TheVariants.{Obeyed, Began, Ended}
 use Rattle.srcp_core.specs.declared.record.Finish.{Finish}
-use Rattle.srcp_core.specs.declared.record.Finish.TheVariants.{Live, Closing as Finishes, Overrun, Shut}
+use Rattle.srcp_core.specs.declared.record.Finish.TheVariants.{Shut}
 use Rattle.srcp_core.specs.declared.record.CoreFault.{CoreFault}
-use Rattle.srcp_core.specs.declared.record.CoreFault.TheVariants.{Full, Memory as MemoryFault, NoSuch, Busy}
-use Rattle.srcp_core.specs.declared.record.CoreFault.TheVariants.{PieceTooLong, Closing}
+use Rattle.srcp_core.specs.declared.record.CoreFault.TheVariants.{Full, Memory as MemoryFault, NoSuch}
 
 -- ---- one slot
 
@@ -287,13 +286,10 @@ IsNotAdmitted Full old new = (open_count old ≡ most_connections) × (new ≡ o
 IsNotAdmitted MemoryFault old new = (open_count old < most_connections) × (new ≡ one_denied old)
 IsNotAdmitted _ _ _ = ⊥
 
--- why bytes are refused, the first cause
+-- why bytes are refused
 abbrev pub bytes_fault_from : List ℕ → Option Place → Option CoreFault
 bytes_fault_from _ None = Some NoSuch
-bytes_fault_from piece (Some p) =
-    if p.ended || has_overrun p.panel then Some Closing
-    else (if not (is_nil p.unsent) then Some Busy
-    else (if nat_lt most_in_piece (length piece) then Some PieceTooLong else None))
+bytes_fault_from piece (Some p) = fault_of (p.ended || has_overrun p.panel) p.unsent piece
 
 -- the same of the connection of that key
 abbrev pub bytes_fault : ℕ → List ℕ → Held → Option CoreFault
@@ -376,10 +372,7 @@ live_session key held = live_session_of (at held key)
 
 -- how the connection of that key stands
 abbrev pub finish_at : ℕ → Held → Finish
-finish_at key held =
-    option_map_or
-    (λ p. if has_overrun p.panel then Overrun else (if p.ended && is_nil p.unsent then Finishes else Live))
-    (at held key) Shut
+finish_at key held = option_map_or (λ p. finish_of (has_overrun p.panel) p.ended p.unsent) (at held key) Shut
 
 -- the next line is put in for the connection of that key
 abbrev pub let_out : ℕ → Held → Held

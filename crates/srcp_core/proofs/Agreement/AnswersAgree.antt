@@ -1,14 +1,15 @@
 -- What the answers of a core's calls say of the course that it stands for.
 use Rattle.srcp_core.proofs.Names.{◌≡◌, ℕ, suc, ◌+◌, Bool, true, false, List, [], ◌∷◌, ◌++◌, length, refl, sym, ◌∙◌, arith}
-use Rattle.srcp_core.proofs.Names.{le-ltb, filter, Option, Some, None, is_none, is_some, count_by, nat_lt, slice_get, slice_index_or, not}
+use Rattle.srcp_core.proofs.Names.{le-ltb, filter, Option, Some, None, is_none, is_some, count_by, slice_get, slice_index_or}
 use Rattle.srcp_core.proofs.Names.{if◌then◌else◌, Bus, IsLayout, Event, Open, Bytes, Room, Shut, Piece, OfCourse}
 use Rattle.srcp_core.proofs.Names.{OfConnection, lent, Connection, is_open, overran, unsent, World, course, fault, history}
 use Rattle.srcp_core.proofs.Names.{Place, Held, at, IsAdmitted, IsNotAdmitted, bytes_fault, bytes_fault_from, finish_at, cases_Bool, ⊎_elim}
-use Rattle.srcp_core.proofs.Names.{unsent_at, let_out, key_of, StandsFor, place_of, CoreFault, Full, Busy, PieceTooLong, open_count, ◌≤◌}
+use Rattle.srcp_core.proofs.Names.{unsent_at, let_out, key_of, StandsFor, place_of, CoreFault, Full, open_count, ◌≤◌}
 use Rattle.std.specs.Prelude.{IsSome}
 use Rattle.srcp_core.specs.Agrees.{closes}
 use Rattle.srcp_core.specs.Connection.{is_last}
-use Rattle.srcp_core.specs.declared.record.CoreFault.TheVariants.{Memory as MemoryFault, Closing as ClosingFault}
+use Rattle.srcp_core.specs.Course.{fault_of}
+use Rattle.srcp_core.specs.declared.record.CoreFault.TheVariants.{Memory as MemoryFault}
 use Rattle.srcp_core.proofs.Agreement.EventsAgree.{over_is, fault_same, full_fault, free_fault}
 use Rattle.srcp_core.proofs.Agreement.CallsFollowTheCourse.{out_stands}
 use Rattle.srcp_core.proofs.Agreement.RecordIsOfTheCourse.{finish_is}
@@ -108,13 +109,10 @@ takes_agrees key held accepts buses events keys n layout named s piece few =
     from None e = cc
     from (Some p) e = by _ _ e
       where
-        by : (over idle : Bool) → is_none (if over then Some ClosingFault else (if not idle then Some Busy else None)) ≡ true
-            → (if over then Some ClosingFault
-            else (if not idle then Some Busy else (if nat_lt 256 (length piece.bytes) then Some PieceTooLong else None)))
-            ≡ None
-        by true idle e = cc
-        by false false e = cc
-        by false true e = cc (le-ltb 256 _ few)
+        by : (over : Bool) (left : List ℕ) → is_none (fault_of over left []) ≡ true → fault_of over left piece.bytes ≡ None
+        by true left e = cc
+        by false (_ ∷ _) e = cc
+        by false [] e = cc (le-ltb 256 _ few)
 
 pub closes_agrees : (key : ℕ) (held : Held)
     → OfConnection key held (λ buses events n. is_last (finish_at key held) ≡ closes buses (course buses events) n)

@@ -1,13 +1,13 @@
 -- A core that stands for a course, and the events of connections and moments.
 use Rattle.srcp_core.proofs.Names.{◌≡◌, ◌≢◌, ⊎_elim, inl, inr, ◌⊎◌, ℕ, zero, suc, ◌+◌, ◌<◌, Bool, true, false, List, [], ◌∷◌, ◌++◌}
 use Rattle.srcp_core.proofs.Names.{length, length-append, refl, ap, sym, ◌∙◌, subst, arith, nat_tests, false≢true, filter, Option, Some}
-use Rattle.srcp_core.proofs.Names.{None, not, ◌||◌, nat_lt, slice_set, is_some, count_by, if◌then◌else◌, nothing_read, Bus, opening}
-use Rattle.srcp_core.proofs.Names.{shown_rows, key_at, IsRisingBy, Open, At, Shut, Ended, Connection, History, is_open, is_nil, overran}
+use Rattle.srcp_core.proofs.Names.{None, ◌||◌, nat_lt, slice_set, is_some, count_by, if◌then◌else◌, nothing_read, Bus, opening}
+use Rattle.srcp_core.proofs.Names.{shown_rows, key_at, IsRisingBy, Open, At, Shut, Ended, Connection, History, is_open, overran}
 use Rattle.srcp_core.proofs.Names.{unsent, World, numbered, at_connection, open_connection, if_open, did, history, fresh, counted}
 use Rattle.srcp_core.proofs.Names.{fault, accepted, Place, Held, at, place_at, open_count, IsAdmitted, bytes_fault}
 use Rattle.srcp_core.proofs.Names.{freed_place, freed_of, hung_up, advanced, key_of, without_key, StandsBy, StandsFor, IsAt, IsOwned}
-use Rattle.srcp_core.proofs.Names.{place_of, Full, Busy, PieceTooLong, Closing, if_two, le-ltb, cases_Bool}
-use Rattle.srcp_core.specs.Course.{bytes_fault as course_fault}
+use Rattle.srcp_core.proofs.Names.{place_of, Full, if_two, le-ltb, cases_Bool}
+use Rattle.srcp_core.specs.Course.{bytes_fault as course_fault, fault_of}
 use Rattle.srcp_core.specs.declared.record.CoreFault.TheVariants.{Memory as MemoryFault}
 use Rattle.srcp_core.proofs.Agreement.LinesAgree.{IsFine}
 use Rattle.srcp_core.proofs.Invariants.PlacesCover.{Where, Here, Away, where_is, place_set, place_set_here, no_place}
@@ -54,15 +54,10 @@ module _ (buses : List Bus) where
       let over = over_is buses (history buses w) h.conn h.shut f in
       rw (h.place, h.opened, place_overran h.reader (history buses w) h.conn)
       (by h.conn.ended (is_over_place (history buses w) h.conn) (λ e. place_unsent h.reader (history buses w) h.conn e)
-      ∙ ap (λ t. if h.conn.ended || t then Some Closing
-      else (if not (is_nil (unsent h.conn)) then Some Busy else (if nat_lt 256 (length piece) then Some PieceTooLong else None)))
-      (sym over))
+      ∙ ap (λ t. fault_of (h.conn.ended || t) (unsent h.conn) piece) (sym over))
     where
       by : {bytes other : List ℕ} (ended over : Bool) → (over ≡ false → bytes ≡ other)
-          → (if ended || over then Some Closing
-          else (if not (is_nil bytes) then Some Busy else (if nat_lt 256 (length piece) then Some PieceTooLong else None)))
-          ≡ (if ended || over then Some Closing
-          else (if not (is_nil other) then Some Busy else (if nat_lt 256 (length piece) then Some PieceTooLong else None)))
+          → fault_of (ended || over) bytes piece ≡ fault_of (ended || over) other piece
       by true over h = refl
       by false true h = refl
       by false false h = cc (h refl)

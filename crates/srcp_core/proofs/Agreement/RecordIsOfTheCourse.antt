@@ -1,21 +1,20 @@
 -- The record of a run is that of the course of its events.
 use Rattle.srcp_core.proofs.Names.{◌≡◌, ℕ, zero, suc, ◌+◌, ◌≤◌, Bool, true, false, List, [], ◌∷◌, ◌++◌, map, take, length, refl, ap}
-use Rattle.srcp_core.proofs.Names.{sym, ◌∙◌, arith, add-one, length-append, take_all, fold-append, fold, Option, Some, None, ◌&&◌}
-use Rattle.srcp_core.proofs.Names.{slice_get, slice_index_or, if◌then◌else◌, Bus, IsLayout, opening, shown_rows, Event, Open, Bytes, Room}
-use Rattle.srcp_core.proofs.Names.{At, Shut, under, all_under, denied_by, Connection, History, is_open, is_nil, overran, unsent, finish}
+use Rattle.srcp_core.proofs.Names.{sym, ◌∙◌, arith, add-one, length-append, take_all, fold-append, fold, Option, Some, None}
+use Rattle.srcp_core.proofs.Names.{slice_get, slice_index_or, Bus, IsLayout, opening, shown_rows, Event, Open, Bytes, Room}
+use Rattle.srcp_core.proofs.Names.{At, Shut, under, all_under, denied_by, Connection, History, is_open, overran, unsent, finish}
 use Rattle.srcp_core.proofs.Names.{World, start, numbered, history, counted, open_connection, accepted, or_refused, happens, course}
 use Rattle.srcp_core.proofs.Names.{denied_in, denied_over, Reading, Held, at, IsRecordOf, opening_held, finish_at, Recording, key_of}
 use Rattle.srcp_core.proofs.Names.{record_of, changed_record, finished, finished_by, nothing_recorded, Runs, Happened}
 use Rattle.srcp_core.proofs.Names.{StandsFor, place_of, ConnRecord, CoreFault, Record, cases_Bool, ⊎_elim}
 use Rattle.srcp_core.specs.declared.event.Event.{Event as PlainEvent}
-use Rattle.srcp_core.specs.Connection.{recorded}
+use Rattle.srcp_core.specs.Connection.{finish_of, recorded}
 use Rattle.srcp_core.specs.Recording.{with_refusal}
 use Rattle.srcp_core.proofs.Agreement.LinesAreNoted.{changed_in}
 use Rattle.srcp_core.specs.Run.{Answers}
 use Rattle.srcp_core.proofs.Agreement.RefusalsAreCounted.{denied_over_push}
 use Rattle.srcp_core.proofs.Agreement.MemoryAnswers.{under_push, under_length}
 use Rattle.srcp_core.specs.declared.record.Finish.{Finish}
-use Rattle.srcp_core.specs.declared.record.Finish.TheVariants.{Live, Closing, Overrun}
 use Rattle.srcp_core.proofs.Agreement.EventsAgree.{over_is}
 use Rattle.srcp_core.proofs.Agreement.PlacesChange.{place_overran, place_unsent}
 use Rattle.srcp_core.proofs.CourseLaws.SessionsOfACourse.{anything, at_number, opening_in_order, open_shut}
@@ -93,8 +92,7 @@ module _ (buses : List Bus) (layout : IsLayout buses) (keys : List (Option ℕ))
       )
     where
       by : (t : Bool) → (t ≡ false → (place_of reader (history buses w) conn).unsent ≡ unsent conn)
-          → (if t then Overrun else (if conn.ended && is_nil (place_of reader (history buses w) conn).unsent then Closing else Live))
-          ≡ (if t then Overrun else (if conn.ended && is_nil (unsent conn) then Closing else Live))
+          → finish_of t conn.ended (place_of reader (history buses w) conn).unsent ≡ finish_of t conn.ended (unsent conn)
       by true h = refl
       by false h = cc (h refl)
 
