@@ -1,5 +1,5 @@
 //! A connection.
-ghost use Rattle.std.specs.Prelude.{◌≡◌, ◌≤◌, ◌+◌, ◌++◌, ◌⊎◌, [], length, drop, true, ◌&&◌, ◌||◌, IfOk, Some};
+ghost use Rattle.std.specs.Prelude.{◌≡◌, ◌≤◌, ◌+◌, ◌++◌, ◌⊎◌, [], length, drop, false, true, ◌&&◌, ◌||◌, IfOk, Some};
 ghost use Rattle.std.specs.Prelude.{option_map, vec_capacity};
 ghost use Rattle.srcp_rules.specs.State.{shown_rows};
 ghost use Rattle.std.specs.List.{AllByRecursion};
@@ -326,22 +326,24 @@ impl Connection {
         self.ended = true;
     }
 
-    /// Appends the next line of an information session, if nothing is unsent.
+    /// Appends the next line of an information session, if nothing is unsent. Returns false if nothing is unsent then.
     #[inline(always)]
-    pub(crate) fn fill<R: Rows>(&mut self, rows: &R)
+    pub(crate) fn fill<R: Rows>(&mut self, rows: &R) -> bool
         requires { AllByRecursion IsWellFormedShown (shown_rows (R.state rows.now)) }
         ensures place { self.new ≡ filled (shown_rows (R.state rows.now)) self.old }
+        ensures none { result ≡ false → self.new.unsent ≡ [] }
         ensures most { self.old.unsent ≡ [] → length self.new.unsent ≤ LONGEST_LINE }
     {
         if !self.is_sent() {
-            return;
+            return true;
         }
         let Panel::Listening(feed) = &mut self.panel else {
-            return;
+            return false;
         };
         self.reply.clear();
-        give(feed, rows, &mut self.line);
+        let given = give(feed, rows, &mut self.line);
         self.left = self.line.len();
+        given
     }
 
     /// Returns what `fill` would append, or `None` for nothing.
@@ -358,24 +360,27 @@ impl Connection {
     }
 }
 
-/// Writes the next line of the session, or no bytes if nothing is left.
+/// Writes the next line of the session. Returns false, and writes no bytes, if nothing is left.
 #[inline(always)]
-fn give<R: Rows>(feed: &mut InfoFeed, rows: &R, line: &mut InfoLine)
+fn give<R: Rows>(feed: &mut InfoFeed, rows: &R, line: &mut InfoLine) -> bool
     requires well_formed { AllByRecursion IsWellFormed feed.old.queue }
     requires shown { AllByRecursion IsWellFormedShown (shown_rows (R.state rows.now)) }
     ensures feed { feed.new ≡ after_next (shown_rows (R.state rows.now)) feed.old }
     ensures line { line.new ≡ line_of (next_of (shown_rows (R.state rows.now)) feed.old) }
+    ensures none { result ≡ false → line.new ≡ [] }
     ensures most { length line.new ≤ LONGEST_LINE }
 {
     if let Some(first) = feed.first() {
         first.put_into(line);
         feed.drop_first();
-        return;
+        return true;
     }
     line.clear();
-    if let Some(row) = feed.list(rows) {
-        write_shown(&row.shown, line);
-    }
+    let Some(row) = feed.list(rows) else {
+        return false;
+    };
+    write_shown(&row.shown, line);
+    true
 }
 
 /// Moves the unsent bytes, from `start` on, to the beginning of the reply buffer.

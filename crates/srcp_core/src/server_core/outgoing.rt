@@ -1,5 +1,5 @@
 //! Bytes that go out.
-ghost use Rattle.std.specs.Prelude.{◌≡◌, ◌≤◌, [], length, None, IsErr, IsSome, IfOk, IfErr, MatchResult, ◌↔◌};
+ghost use Rattle.std.specs.Prelude.{◌≡◌, ◌≤◌, [], false, length, None, IsErr, IsSome, IfOk, IfErr, MatchResult, ◌↔◌};
 ghost use Rattle.srcp_core.specs.Held.{at};
 ghost use Rattle.srcp_core.specs.Machine.{changed_at, without_sent, unsent_at, let_out, item_at};
 
@@ -27,23 +27,25 @@ impl<'a, R: Rows> Core<'a, R> {
         ensures bytes { IfOk result (λ bytes. bytes.now ≡ unsent_at conn (let_out conn self.old)) }
         ensures one_line { unsent_at conn self.old ≡ [] → IfOk result (λ bytes. length bytes.now ≤ LONGEST_LINE) }
     {
-        self.fill(conn)?;
+        if !self.fill(conn)? {
+            return Ok(&[]);
+        }
         Ok(self.connections[conn].unsent())
     }
 
-    /// Appends the next line of an information session, if nothing is unsent.
+    /// Appends the next line of an information session, if nothing is unsent. Returns false if nothing is unsent then.
     #[inline(always)]
-    fn fill(&mut self, conn: usize) -> Result<(), CoreFault>
+    fn fill(&mut self, conn: usize) -> Result<bool, CoreFault>
         ensures absent { IsErr result ↔ (at self.old conn ≡ None) }
         ensures fault { IfErr result (λ fault. fault ≡ CoreFault.NoSuch) }
         ensures core { self.new ≡ let_out conn self.old }
+        ensures none { IfOk result (λ some. some ≡ false → unsent_at conn self.new ≡ []) }
         ensures most { unsent_at conn self.old ≡ [] → length (unsent_at conn self.new) ≤ LONGEST_LINE }
     {
         let Some(connection) = self.connections.get_mut(conn) else {
             return Err(CoreFault::NoSuch);
         };
-        connection.fill(&self.rows);
-        Ok(())
+        Ok(connection.fill(&self.rows))
     }
 
     /// Returns what `fill` would append, if anything.
