@@ -28,3 +28,4 @@ pub mod WaitsGrow
 pub mod LockedIsLeftAlone
 pub mod LinesBringTheirWeight
 pub mod OneLineIsUnsent
+pub mod AnswersByRequest
