@@ -1,5 +1,6 @@
 -- To be believed: the answer to a line, for each thing that a line asks for. A law says it of the acts.
-use Rattle.std.specs.Prelude.{◌≡◌, ℕ, ◌+◌, Bool, true, not, ◌&&◌, ◌||◌, if◌then◌else◌, List, [], ◌∷◌, fold, nat_lt, Ok, Err}
+use Rattle.std.specs.Prelude.{◌≡◌, ℕ, ◌+◌, Bool, true, not, ◌&&◌, ◌||◌, if◌then◌else◌, List, [], ◌∷◌, fold, nat_lt, Ok}
+use Rattle.std.specs.Prelude.{Err}
 use Rattle.srcp_info.specs.Limits.{greatest_id}
 use Rattle.srcp_info.specs.declared.change.Code.{Code}
 use Rattle.srcp_info.specs.declared.change.Code.TheVariants.{C500}

@@ -1,6 +1,7 @@
 -- What a line is answered, for each thing that it asks for.
 use Rattle.srcp_core.proofs.Names.{◌≡◌, ℕ, Bool, true, false, not, ◌&&◌, ◌||◌, List, if◌then◌else◌, refl, nat_lt, ⊎_elim, cases_Bool}
-use Rattle.srcp_core.proofs.Names.{ap, Bus, C500, Command, Effect, Held, Order, Refused, World, effect, one_denied, refused, state, wants_memory}
+use Rattle.srcp_core.proofs.Names.{ap, Bus, C500, Command, Effect, Held, Order, Refused, World, effect, one_denied, refused, state}
+use Rattle.srcp_core.proofs.Names.{wants_memory}
 use Rattle.srcp_info.specs.Limits.{greatest_id}
 use Rattle.srcp_rules.specs.Steps.{effect as effect_of_order}
 use Rattle.srcp_core.specs.Answered.{AnswersHeld, AnswersInCourse, AreStepsOfAnswers}
