@@ -34,6 +34,9 @@ class Box:
         following = asyncio.create_task(self.mirror.run())
         while not following.done():
             session = await self.joined.get()
+            with contextlib.suppress(ConnectionError):
+                for bus in sorted({bus for bus, _ in self.plan.accessories()}):
+                    await self.mirror.look_for_bus(bus, f"--plan {self.asked.plan}: bus")
             try:
                 await self.make()
                 await self.carry_out(session)

@@ -217,13 +217,13 @@ class Mirror:
             raise ConnectionError("the server is away")
         return await self.session.ask(command)
 
-    async def look_for_bus(self, number):
-        """Raises Wrong if the server has no bus of that number: it is one of this program's words."""
+    async def look_for_bus(self, number, named="--bus"):
+        """Raises Wrong if the server has no bus of that number. `named` says which of this program's words names it."""
         try:
             await self.ask(f"GET {number} POWER")
         except Refused as reply:
             if str(reply).startswith("412"):
-                raise Wrong(f"--bus {number}: the server has no such bus") from None
+                raise Wrong(f"{named} {number}: the server has no such bus") from None
 
     def way(self, bus, address):
         """Returns the direction of a locomotive: the one that its rows told last. An emergency stop tells none."""

@@ -331,6 +331,16 @@ class Box(Case):
             about = f"--program {other}" if other == "no" else f"--plan {plan}"
             self.assertRegex(box.told(), rf"\A-- {about}: .*\n\Z")
 
+    def test_a_bus_that_the_server_does_not_have(self):
+        """It names the plan, and the bus of the routes or that of a turnout."""
+        for bus, of_routes, of_turnout in (7, 7, 1), (8, 3, 8):
+            plan = Path(new_folder(), "plan.toml")
+            plan.write_text(f"bus = {of_routes}\n[[route]]\nnumber = 1\nturnouts = [[{of_turnout}, 1, 1]]\n")
+            box = self.starts("box.py", "--plan", plan, "--program", common.SERVER)
+            self.assertEqual(box.process.wait(WAIT), 2)
+            said = f"-- server: joined, started anew\n-- --plan {plan}: bus {bus}: the server has no such bus\n"
+            self.assertEqual(box.told(), said)
+
 
 def position_of(port, bus, number):
     """How an accessory lies, as one sees that comes now."""
