@@ -91,6 +91,8 @@ def wanted_of(text):
         raise ValueError(f"no such member: {', '.join(unknown)}")
     if not (functions := given.pop("functions", {})) and not given:
         raise ValueError("nothing is wanted")
+    if wrong := [name for name, value in given.items() if type(value) not in (int, float)]:  # True is an int too
+        raise ValueError(f"{wrong[0]} is no number")
     numbered = functions.items() if isinstance(functions, dict) else enumerate(functions)
     words = {name: int(value) for name, value in given.items()}
     return Wanted(**words, functions={int(number): int(value) for number, value in numbered})

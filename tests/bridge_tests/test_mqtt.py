@@ -157,7 +157,8 @@ class Payloads(unittest.TestCase):
         ]:
             self.assertEqual(wanted_of(text), wanted)
         for text in ("", "[", "[]", "{}", "null", "x", '{"v": Infinity}', '{"speed": 5}', '{"functions": []}',
-                     '{"functions": {"x": 1}}', '{"functions": 5}', '{"v": "9\nSET 1 POWER OFF"}', "[" * 5000):
+                     '{"functions": {"x": 1}}', '{"functions": 5}', '{"v": "9\nSET 1 POWER OFF"}', "[" * 5000,
+                     "true", "false", '"12"', '{"v": true}', '{"v": false}', '{"mode": true}', '{"v": "12"}'):
             with self.assertRaises(Exception, msg=text):
                 wanted_of(text)
         places = ["1/GL/3", "1/GL/3/is", "1/GA/3/1", "1/FB/3", "1_GL_3", "stop", "x"]
@@ -297,10 +298,11 @@ class Mqtt(MqttCase):
 
     def test_what_is_refused(self):
         """Whatever is sent reaches no train, ends nothing, and is told."""
+        self.throttle.order("TERM 1 LOCK GL 3")
         wrong = [("1/GL/99", "5"), ("1/GL/3", "{"), ("1/POWER", "ON\nSET 1 FB 1 1"), ("1/GL/x", "1"), ("1/GL/3", "[]"),
                  ("1/GL/3", "null"), ("1/GL/3", '{"v": Infinity}'), ("1/GL/3", "[" * 900), ("1/GL/3", "x" * 10_000_000),
                  ("0/SESSION/1/is", ""), ("1/GL/3", b"\xff\xfe"), ("x", "1"), ("1/GL/3", '{"functions": 5}'),
-                 ("1/GL/3", "-1"),
+                 ("1/GL/3", "-1"), ("1/GL/3", "true"), ("1/GL/3", '{"v": true}'), ("1/GL/3", '"12"'),
                  ("1/GL/3 1 9 28", "1"), ("1/GL/3", '{"v": "9\\nSET 1 POWER OFF"}')]
         for topic, payload in wrong:
             self.client.say(f"srcp/{topic}/set", payload)
