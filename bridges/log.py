@@ -6,7 +6,7 @@ The server keeps no log. As a unit (`srcp_bridge@log`) this one has the journal 
 """
 import time
 
-from srcp_bridges.program import arguments, names, run
+from srcp_bridges.program import arguments, names, run, tell
 from srcp_bridges.rows import BACKWARD, EMERGENCY_STOP, FORWARD, Change, Drive, Lock, Peer, Port, Power
 from srcp_bridges.srcp import Mirror
 
@@ -62,7 +62,7 @@ class Log:
     def write(self, text):
         moment = time.time()
         day = time.strftime("%Y-%m-%d %H:%M:%S", time.localtime(moment))
-        print(f"{day}.{int(moment * 1000) % 1000:03} {text}", flush=True)
+        tell(f"{day}.{int(moment * 1000) % 1000:03} {text}")
 
 
 def main():

@@ -10,7 +10,7 @@ import socket
 import subprocess
 import time
 
-from panel import apply
+from panel import apply, tell
 from status import names, programs, snapshot
 
 TOP = 126  # steps of a station
@@ -140,10 +140,10 @@ def main():
     chain = Chain(words.parse_args())
     for number, link in enumerate(LINKS, 1):
         try:
-            print(f"{number} {link.__name__}: {link(chain)}")
+            tell(f"{number} {link.__name__}: {link(chain)}")
         except Broken as broken:
             what, cure = broken.args
-            print(f"{number} {link.__name__}: {what}\n-- {cure}")
+            tell(f"{number} {link.__name__}: {what}\n-- {cure}")
             raise SystemExit(number)
 
 

@@ -14,6 +14,8 @@ if sys.version_info < (3, 11):
 
 import tomllib
 
+from panel import tell
+
 # The whole numbers that each key may have, and those that it has if it is not there.
 NUMBERS = {
     "port": range(1, 65536),
@@ -143,7 +145,7 @@ def lint(content):
     try:
         document = parsed(content)
     except ValueError as met:
-        print(met)
+        tell(met)
         return "not TOML"
     buses = document["bus"] if isinstance(document.get("bus"), list) else []
     faults = [(0, fault) for fault in faults_of_keys(document, "port", "bus") + unread(document, "port", "bus")]
@@ -152,9 +154,9 @@ def lint(content):
     lines = content.splitlines()
     names = place_names(buses)
     for place, fault in faults:
-        print(f"line {line_of(lines, place, fault.key)}{names[place]}: {fault.said}{fault.more}")
+        tell(f"line {line_of(lines, place, fault.key)}{names[place]}: {fault.said}{fault.more}")
     if why := fault_of_port(document.get("port", UNLESS_GIVEN["port"])):
-        print(f"the port cannot be had: {why}")
+        tell(f"the port cannot be had: {why}")
     return next((fault.said for _, fault in faults if fault.said), None)
 
 
@@ -163,7 +165,7 @@ def main():
     words.add_argument("file", type=argparse.FileType("rb"))
     content = words.parse_args().file.read().decode(errors="surrogateescape").removeprefix("\ufeff")
     refused = lint(content)
-    print(f"srcp_server: config: {refused}" if refused else "check accepts it")
+    tell(f"srcp_server: config: {refused}" if refused else "check accepts it")
     return 2 if refused else 0
 
 

@@ -6,6 +6,7 @@ A server closes the connection of a panel that falls behind. This one then joins
 Ctrl-C ends it.
 """
 import argparse
+import os
 import signal
 import socket
 import sys
@@ -16,6 +17,15 @@ if sys.version_info < (3, 11):
 MOMENT = 0.5  # a listing has no end mark: after this many seconds without a line the panel holds all rows
 LONGEST = 3.0  # on a busy layout no such moment comes: it waits for one this long at most
 NAMES = {"POWER": 3, "GL": 4, "GA": 4, "FB": 4, "LOCK": 5, "SESSION": 4}  # where the name of a device ends, behind INFO
+
+
+def tell(text):
+    """Prints a text. Ends the program without a word once nobody reads what it prints, as `head` wants it."""
+    try:
+        print(text, flush=True)
+    except BrokenPipeError:
+        os.dup2(os.open(os.devnull, os.O_WRONLY), sys.stdout.fileno())  # for what is not written yet
+        sys.exit(128 + signal.SIGPIPE)
 
 
 def lines_of(connection):
@@ -65,12 +75,12 @@ def watch(host, port):
         for line in lines_of(connection):
             if line is None:
                 if told:
-                    print(f"-- {len(rows)} rows", flush=True)
+                    tell(f"-- {len(rows)} rows")
                 told = False
             elif replies:  # the welcome line, and the replies to the two lines that were sent
                 replies -= 1
             elif apply(rows, line):
-                print(line, flush=True)
+                tell(line)
                 told = True
 
 
@@ -82,14 +92,13 @@ def main():
     while True:
         try:
             watch(asked.host, asked.port)
-            print("-- closed by the server", flush=True)
+            tell("-- closed by the server")
         except OSError as fault:
-            print(f"-- {fault}", flush=True)
+            tell(f"-- {fault}")
         time.sleep(1)
 
 
 if __name__ == "__main__":
-    signal.signal(signal.SIGPIPE, signal.SIG_DFL)  # as `head` wants it: ended without a word once nobody reads
     try:
         main()
     except KeyboardInterrupt:

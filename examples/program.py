@@ -8,6 +8,7 @@ import argparse
 import socket
 import sys
 
+from panel import tell
 from status import programs
 
 if sys.version_info < (3, 11):
@@ -68,7 +69,7 @@ def table(decoder):
         code, told = decoder.ask("READ", cv)
         if code not in ("200", "416"):
             sys.exit(f"CV {cv}: {told}")
-        print(f"{cv:4} {told if code == '200' else '-':>4}  {about}", flush=True)
+        tell(f"{cv:4} {told if code == '200' else '-':>4}  {about}")
 
 
 def carry_out(decoder, what, numbers):
@@ -77,13 +78,13 @@ def carry_out(decoder, what, numbers):
         table(decoder)
     elif what == "read":
         for cv in numbers:
-            print(f"CV {cv} = {decoder.value('READ', cv)}", flush=True)
+            tell(f"CV {cv} = {decoder.value('READ', cv)}")
     else:
         cv, wanted = numbers
         value = decoder.value(*("WRITE", cv, wanted) if what == "write" else ("READ", cv))
         if value != wanted:
             sys.exit(f"CV {cv} = {value}, and not {wanted}")
-        print(f"CV {cv} = {value}")
+        tell(f"CV {cv} = {value}")
 
 
 def is_right(what, numbers):

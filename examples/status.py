@@ -11,7 +11,7 @@ import socket
 import sys
 from pathlib import Path
 
-from panel import apply
+from panel import apply, tell
 
 COUNTED = {"GL": "locomotives", "GA": "turnouts", "FB": "sensors"}
 
@@ -69,12 +69,12 @@ def main():
     except OSError as fault:
         sys.exit(f"no server answers at {asked.host}, port {asked.port}: {fault}")
     if len(lines) < 3:
-        print("the server is full: 64 programs are connected")
+        tell("the server is full: 64 programs are connected")
         return
     rows = {}
     for line in lines[3:]:  # the welcome line and two replies come first, and the second has the session
         apply(rows, line)
-    print("\n".join(summary(rows, lines[2].split(" ")[-1], names(asked.port))))
+    tell("\n".join(summary(rows, lines[2].split(" ")[-1], names(asked.port))))
 
 
 if __name__ == "__main__":

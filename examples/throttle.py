@@ -2,13 +2,15 @@
 """throttle.py [--host HOST] [--port PORT] [--bus BUS] [--address ADDRESS] [WORD ..]: a throttle for one locomotive.
 
 Each word is a step: `faster`, `slower`, `turn`, `light`, `stop`. Without words it reads them from the keyboard, one a
-line, until the input ends (Ctrl-D). Then, and at SIGINT, SIGTERM or SIGHUP, it stops the locomotive if that drives as
-this throttle said.
+line, until the input ends (Ctrl-D). Then, at SIGINT, SIGTERM or SIGHUP, and once nobody reads what it prints, it stops
+the locomotive if that drives as this throttle said.
 """
 import argparse
 import signal
 import socket
 import sys
+
+from panel import tell
 
 if sys.version_info < (3, 11):
     sys.exit("this takes Python 3.11 or later")
@@ -60,7 +62,7 @@ class Throttle:
         """Has the locomotive drive so, and prints what the server says of it then. Functions not given stay as they
         are."""
         self.ask(" ".join(["SET", self.locomotive, *map(str, words)]))
-        print(self.ask(f"GET {self.locomotive}"), flush=True)
+        tell(self.ask(f"GET {self.locomotive}"))
 
     def take(self, word):
         """Takes the step that the word asks for, from how the locomotive drives now: another may have stopped it."""
@@ -71,7 +73,7 @@ class Throttle:
             if functions:
                 self.set(mode, speed, top, 1 - functions[0])
             else:
-                print("it has no function")
+                tell("it has no function")
             return
         top = top if speed else STEPS  # one that stands may get another top speed; 0 means that speeds have no top
         step = top // 7 or 1
@@ -84,7 +86,7 @@ class Throttle:
         elif word == "stop":
             said = EMERGENCY_STOP, 0, 0
         else:
-            print("words: faster, slower, turn, light, stop")
+            tell("words: faster, slower, turn, light, stop")
             return
         self.drive_said = list(said)
         self.set(*said)

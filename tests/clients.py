@@ -9,7 +9,7 @@ import time
 from contextlib import contextmanager
 from pathlib import Path
 
-from serving import SECONDS, WELCOME, Client, served
+from serving import SECONDS, UNREAD, WELCOME, Client, run_unread, served
 
 TOP = Path(__file__).resolve().parent.parent
 EXAMPLES = TOP / "examples"
@@ -181,6 +181,25 @@ def throttle_whose_train_another_took(program):
     return None if got == want else f"got {got!r}, want {want!r}"
 
 
+def clients_that_nobody_reads_end_without_a_word(program):
+    """As `head` wants it. A throttle stops its train first: that of its own address at its step, the other at its
+    end."""
+    with served(program) as (port, _):
+        for name, *words in (["lint.py", EXAMPLES / "layout.toml"], ["status.py"], ["doctor.py", "3"], ["panel.py"],
+                             ["throttle.py", "faster", "light"]):
+            words += ["--port", str(port)] if name != "lint.py" else []
+            if (got := run_unread(EXAMPLES / name, *words)) != (UNREAD, ""):
+                return f"{name}: got {got}"
+        with throttle_at(port, 3) as throttle:
+            throttle.stdout.close()
+            throttle.stdin.close()
+            status = throttle.wait(SECONDS)
+        other = Client(port, "COMMAND")
+        got = status, other.asks("GET 1 GL 12"), other.asks("GET 1 GL 3")
+    want = UNREAD, "100 INFO 1 GL 12 1 0 28 0", "100 INFO 1 GL 3 1 0 28 0"
+    return None if got == want else f"got {got!r}, want {want!r}"
+
+
 def throttle_by_itself_meets_no_train_of_the_readme(_):
     """Its own address is none that the page drives, so that who tries it beside the page stops nothing."""
     driven = set(re.findall(r"GL (\d+)|--address (\d+)", (TOP / "README.md").read_text()))
@@ -203,4 +222,5 @@ def clients_say_how_they_are_started(_):
 CLIENT_CASES = (panel_that_watches_a_throttle, panel_that_joins_again, panel_that_skips_what_it_does_not_know,
                 panel_on_a_busy_layout, throttle_of_a_train_that_runs, throttle_with_any_number_of_functions,
                 throttle_that_ends_leaves_it_standing, throttle_whose_train_another_took,
-                throttle_by_itself_meets_no_train_of_the_readme, clients_say_how_they_are_started)
+                clients_that_nobody_reads_end_without_a_word, throttle_by_itself_meets_no_train_of_the_readme,
+                clients_say_how_they_are_started)

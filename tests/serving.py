@@ -1,8 +1,11 @@
 """What a served layout does, seen from outside: a throttle and panels over sockets of this machine."""
+import os
 import re
 import resource
+import signal
 import socket
 import subprocess
+import sys
 import tempfile
 import time
 from collections import Counter
@@ -21,6 +24,7 @@ WELCOME = b"srcp_server 1.0; SRCP 0.8.4; SRCPOTHER 0.8.3\n"
 # in what a case expects these words stand for texts of the program
 TEXTS = {b"{WELCOME}": WELCOME.removesuffix(b"\n"), b"{VERSION}": WELCOME.partition(b";")[0]}
 SECONDS = 20
+UNREAD = 128 + signal.SIGPIPE  # the status of what ends since nobody reads what it prints
 
 
 def expected_text(text):
@@ -149,6 +153,16 @@ def wait_for(port, server):
         except OSError:
             time.sleep(0.02)
     raise RuntimeError(f"nobody listens: {server.poll()}")
+
+
+def run_unread(*words, seconds=SECONDS):
+    """Runs a program of Python, and nobody reads what it prints. Returns its status, and what it says besides."""
+    reading, writing = os.pipe()
+    os.close(reading)
+    command = [sys.executable, *map(str, words)]
+    with os.fdopen(writing) as output:
+        done = subprocess.run(command, stdout=output, stderr=subprocess.PIPE, text=True, timeout=seconds)
+    return done.returncode, done.stderr
 
 
 def mirrored(program, lines):

@@ -2,6 +2,7 @@
 import argparse
 import asyncio
 import contextlib
+import os
 import signal
 import sys
 
@@ -28,6 +29,15 @@ def say(text):
         said[about] = text
         with contextlib.suppress(OSError):  # its terminal is gone: what is to be done is done nonetheless
             print(f"-- {printable(text)}", file=sys.stderr, flush=True)
+
+
+def tell(text):
+    """Prints a text on standard output. Ends the program without a word once nobody reads that, as `head` wants it."""
+    try:
+        print(text, flush=True)
+    except BrokenPipeError:
+        os.dup2(os.open(os.devnull, os.O_WRONLY), sys.stdout.fileno())  # for what is not written yet
+        sys.exit(128 + signal.SIGPIPE)
 
 
 def printable(text):

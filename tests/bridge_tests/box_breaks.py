@@ -13,7 +13,7 @@ BOX_BREAKS = [
     ("box", "box", "nothing is made", "            await self.order(self.mirror, f\"INIT {bus}",
      "            str(f\"INIT {bus}"),
     ("box", "box", "what the panel tells late is an ask", "while not await self.mirror.shows(device):", "while False:"),
-    ("box", "box", "a bus that is not there is not told of", 
+    ("box", "box", "a bus that is not there is not told of",
      "for bus in sorted({bus for bus, _ in self.plan.accessories()}):", "for bus in []:"),
     ("box", "box", "what is refused counts as accepted", "interlock.tell(reply)", "interlock.tell(\"200 OK\")"),
     ("box", "box", "a route that was not set is given back", "if is_set != (number in self.set):", "if True:"),

@@ -1,9 +1,13 @@
 """log.py: each change and each session, with the time of day."""
 import re
+import subprocess
+import sys
 import time
 from pathlib import Path
 
-from .common import Case, new_folder, until
+from serving import UNREAD
+
+from .common import PROGRAMS, WAIT, Case, new_folder, until
 
 STAMP = re.compile(r"^\d{4}-\d\d-\d\d \d\d:\d\d:\d\d\.\d{3} ", re.M)
 
@@ -42,3 +46,15 @@ class Log(Case):
         until(lambda: self.lines().count("joined a server that was started") == 2, "joined again")
         self.assertIn("the server is away", self.lines())
         self.assertIn("1 GL 7: the locomotive is gone", self.lines())
+
+    def test_once_nobody_reads_it_it_ends(self):
+        """As `head` wants it, without a word."""
+        words = [sys.executable, PROGRAMS / "log.py", "--port", str(self.server.port)]
+        with subprocess.Popen(words, stdout=subprocess.PIPE, stderr=subprocess.PIPE, text=True) as log:
+            self.addCleanup(log.kill)
+            while "joined" not in log.stdout.readline():
+                pass
+            log.stdout.close()
+            self.throttle.order("SET 1 FB 7 1")
+            told = log.communicate(timeout=WAIT)[1]
+        self.assertEqual((log.returncode, told), (UNREAD, "-- server: joined, started anew\n"))

@@ -11,6 +11,8 @@ import types
 import unittest
 from unittest import mock
 
+from serving import UNREAD, run_unread
+
 from .common import TOP, WAIT, folder, free_port, until
 from .stations import QUIET, StationCase
 from .test_dcc_ex import DccExCase
@@ -71,6 +73,10 @@ class Programs(StationCase):
         for cv, value, about in lines:
             self.assertEqual(value, str(self.station.decoder.get(int(cv), "-")))
             self.assertTrue(about)
+
+    def test_program_that_nobody_reads_ends_without_a_word(self):
+        self.may()
+        self.assertEqual(run_unread(EXAMPLE, "--port", self.way.port, "table", seconds=2 * WAIT), (UNREAD, ""))
 
     def test_program_finds_no_decoder(self):
         self.may()
