@@ -66,8 +66,10 @@ def faults_of_keys(table, *keys):
 
 
 def unread(table, *keys):
-    """Returns the keys of a table that the server does not read: `check` says nothing of them."""
-    return [Fault(key, "", f"{key} is not read{hint(key, keys)}") for key in table if key not in keys]
+    """Returns the keys of a table that the server does not read: `check` says nothing of them. One that is there
+    already was not meant."""
+    absent = [key for key in keys if key not in table]
+    return [Fault(key, "", f"{key} is not read{hint(key, absent)}") for key in table if key not in keys]
 
 
 def fault_of_group(group):

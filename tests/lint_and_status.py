@@ -26,14 +26,14 @@ groups = ["GA"]
  ga_ports = 9
 fb_ports = 3
 """
-TOLD = """line 1: prot is not read: did you mean port?
+TOLD = """line 1: prot is not read
 line 5, bus 1: unknown group: 'SM'
 line 5, bus 1: groups out of range: 3
 line 6, bus 1: gl_max out of range: not 1 to 10239
 line 8, bus 1: bus 1 twice
 line 7, bus 1: ga_max missing
 line 10, bus 1: ga_ports out of range: not 2 to 8
-line 11, bus 1: fb_ports is not read: did you mean ga_ports?
+line 11, bus 1: fb_ports is not read
 srcp_server: config: unknown group
 """
 
@@ -73,7 +73,8 @@ def lint_tells_all_faults(_):
 
 
 def lint_hints_at_what_was_meant(_):
-    """A bus with single brackets, and groups that are not in capitals or have a letter that is wrong."""
+    """A bus with single brackets, groups that are not in capitals or have a letter that is wrong, and keys: a key that
+    is there already was not meant."""
     faulty = b"port = %d\n\n [bus] # main\nnumber = 1\n" % free_port()
     bus = linted(faulty)
     groups = linted(b'port = %d\nbus = [{number = 1, groups = ["power", "Ga", "XY"], ga_max = 4}]\n' % free_port())
@@ -82,7 +83,13 @@ def lint_hints_at_what_was_meant(_):
     if bus != (want, 2):
         return f"got {bus}"
     hints = [line.partition("unknown group: ")[2] for line in groups[0] if "unknown group: " in line]
-    return None if hints == ["'power': did you mean POWER?", "'Ga': did you mean GA?", "'XY'"] else f"got {groups}"
+    if hints != ["'power': did you mean POWER?", "'Ga': did you mean GA?", "'XY'"]:
+        return f"got {groups}"
+    keys, _ = linted(b'prot = 4304\nbus = [{number = 1, groups = ["GL"], gl_max = 9, ga_max = 4},'
+                     b' {number = 2, groups = ["GL"], ga_max = 4}]\n')
+    hints = [line.partition(": ")[2] for line in keys if "not read" in line]
+    want = ["prot is not read: did you mean port?", "ga_max is not read", "ga_max is not read: did you mean gl_max?"]
+    return None if hints == want else f"got {keys}"
 
 
 def lint_tells_where_a_document_is_no_toml(_):
