@@ -18,6 +18,17 @@ WORDS = ["--headless=new", "--no-sandbox", "--disable-gpu", "--disable-dev-shm-u
          "--hide-scrollbars", "--disable-background-networking", "--disable-component-update", "--lang=en-GB",
          "--disable-renderer-backgrounding", "--disable-backgrounding-occluded-windows",
          "--remote-debugging-pipe", "about:blank"]
+# Put into a page, it holds back what the page asks for, or the replies, as window.holds says.
+HELD = """(real => {
+  window.held = [];
+  const wait = () => new Promise(goes => window.held.push(goes));
+  window.fetch = async (path, words) => {
+    if (window.holds === 'requests') await wait();
+    const answer = await real(path, words);
+    if (window.holds === 'replies' && path === '/command') await wait();
+    return answer;
+  };
+})(window.fetch)"""
 starting = threading.Lock()
 shared = None
 

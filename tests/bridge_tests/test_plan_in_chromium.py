@@ -3,10 +3,10 @@ import re
 import time
 from pathlib import Path
 
-from .browser import started
+from .browser import HELD, started
 from .common import TOP, new_folder, rows, until
 from .large_plan import large_plan
-from .test_chromium import CONTRAST, HELD, SMALL, ChromiumCase
+from .test_chromium import CONTRAST, SMALL, ChromiumCase
 
 LAYOUT = """port = {port}
 [[bus]]
