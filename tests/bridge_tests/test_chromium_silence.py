@@ -69,6 +69,7 @@ class WebWithSilence(ChromiumCase):
     def test_in_chromium_beats_that_are_late(self):
         """A page that waits half a second for each says that it hears nothing, until the next one comes."""
         self.browser.call("Page.addScriptToEvaluateOnNewDocument", source=IMPATIENT)
-        self.opens()
+        self.drives(GL3=(1, 0))
+        self.opens("1 GL 3")
         for state in ["web.py is away", "Layout"] * 2:
             until(lambda: self.js("document.getElementById('state').textContent") == state, state)
