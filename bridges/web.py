@@ -151,6 +151,7 @@ class Web:
     async def obey(self, path, key, body, seen=0):
         """Does what a page asks for; returns status, kind and body of the answer."""
         page, numbers = self.pages.get(key), [int(word) for word in body.split() if word.isdecimal()]
+        caller = page or Page(self.mirror, None)  # also one that is gone: a stop is wanted nonetheless
         now = asyncio.get_running_loop().time()
         if page and now > page.heard + self.asked.silence:
             page = None  # it counts as gone, or this program slept: what it asked for then is not wanted now
@@ -160,19 +161,19 @@ class Web:
             faults = await self.stop_all()
             whose = [fault.split(": ", 1) for fault in faults if ": " in fault]
             return 200, JSON, json.dumps({"reply": "; ".join(faults) or "200 OK", "faults": whose})
-        if not page:
+        if path == "/stop" and len(numbers) == 2:
+            reply = await caller.stop(*numbers)
+        elif not page:
             return 404, TEXT, "no such page\n"
-        if path == "/command":
+        elif path == "/command":
             reply = await page.ask(body, seen)
         elif path == "/function" and len(numbers) == 4:
             reply = await page.switch(*numbers)
-        elif path == "/stop" and len(numbers) == 2:
-            reply = await page.stop(*numbers)
         elif path == "/alive":
             reply = "200 OK"
         else:
             return 404, TEXT, "no such page\n"
-        return 200, JSON, json.dumps({"reply": reply, "session": page.session and page.session.id})
+        return 200, JSON, json.dumps({"reply": reply, "session": caller.session and caller.session.id})
 
     async def stop_all(self):
         """Stops all locomotives; returns what could not be stopped. Pages are told as soon as the stop is counted."""

@@ -444,8 +444,9 @@ class WebWithSilentPages(WebCase):
 
     def test_what_was_asked_while_it_slept(self):
         """If it slept for as long as makes a page silent, that was asked of it long ago; but a stop is a stop."""
-        self.throttle.order("INIT 1 GL 3 N 1 28 2", "INIT 1 GL 4 N 1 28 2", "SET 1 GL 4 1 9 28")
-        for _ in range(3):  # whichever comes first, the request or that the page is silent
+        self.throttle.order("INIT 1 GL 3 N 1 28 2", "INIT 1 GL 4 N 1 28 2")
+        for which in ["", "1 4"] * 2:  # whichever comes first, the request or that the page is silent
+            self.throttle.order("SET 1 GL 4 1 9 28")
             page = Events(self.port)
             asks, stops = page.connect(), page.connect()  # which are open already, as a browser's are
             for connection in (asks, stops):
@@ -453,11 +454,11 @@ class WebWithSilentPages(WebCase):
                 connection.getresponse().read()
             self.web.send(signal.SIGSTOP)
             asks.request("POST", "/command", "SET 1 GL 3 1 9 28", {"X-Page": page.key})
-            stops.request("POST", "/stop", "", {"X-Page": page.key})
+            stops.request("POST", "/stop", which, {"X-Page": page.key})
             time.sleep(2.5)
             self.web.send(signal.SIGCONT)
             self.assertEqual([connection.getresponse().status for connection in (asks, stops)], [404, 200])
-        self.has("100 INFO 1 GL 3 1 0 0", "100 INFO 1 GL 4 1 0 28")
+            self.has("100 INFO 1 GL 3 1 0 0", "100 INFO 1 GL 4 1 0 28")
 
 
 class WebThatSleeps(WebCase):
