@@ -55,7 +55,8 @@ class Log:
         bus, group, address, part = change.key
         if group == "SESSION" and change.row:
             self.since = max(self.since, change.stamp)
-        if (change.stamp or self.since) >= self.since and (change.row or part in ("is", "lock")):
+        stamp = self.since if change.stamp is None else change.stamp
+        if stamp >= self.since and (change.row or part in ("is", "lock")):
             device = f"{bus} {group}" + f" {address}" * (group != "POWER")
             self.write(f"{self.names.get(device, device)}: {words_of(change)}")
 

@@ -38,7 +38,7 @@ class Log(Case):
                 "1 GA 5: made: N", "1 GA 5: port 0: 0", "1 GA 5: port 1: 0", "1 GA 5: port 1: 1", "1 FB 7: 1",
                 "1 GA 5: the accessory is gone", "V 100: unlocked"]
         self.assertEqual(lines[lines.index(want[0]):], want)
-        self.assertFalse([line for line in lines if "GL 7" in line])  # it was there before
+        self.assertFalse([line for line in lines if re.search("GL 7|FB 8", line)])  # they were there before
         self.assertTrue(all(STAMP.match(line) for line in self.log.told().splitlines() if "V 100" in line))
 
     def test_the_server_goes_and_comes(self):
