@@ -39,10 +39,10 @@ class Orders:
                 self.begin(self.stops, self.stop_all, order)
             elif place.endswith("/POWER") and order.session:
                 self.begin(self.beside, self.obey, order)
+            elif wanted and wanted.mode == EMERGENCY_STOP and order.session:  # also while the panel is lost
+                self.begin(self.stops, self.stop_one, order)
             elif not self.mirror.here:
                 raise Refused("the server is away")
-            elif wanted and wanted.mode == EMERGENCY_STOP:
-                self.begin(self.stops, self.stop_one, order)
             else:  # in its turn: a stop that came before it has begun by then, and is counted
                 asyncio.get_running_loop().call_soon(self.wait, order)
         except Exception as fault:  # whatever was sent, this program goes on

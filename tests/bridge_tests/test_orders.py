@@ -85,9 +85,9 @@ class Orders(unittest.IsolatedAsyncioTestCase):
         await self.hears()
         self.assertEqual(self.told, [(place, text, AWAY) for place, text in messages])
         self.mirror.here = False
-        await self.hears(*messages, ("stop", ""))
+        await self.hears(*messages, ("stop", ""), ("1/GL/3", '{"mode": 2}'))
         self.assertEqual(self.told[4:], [(place, text, AWAY) for place, text in messages])
-        self.assertEqual(set(self.mirror.session.asked) - {"GET 1 GL 3"}, {"SET 1 GL 3 2 0 28"})
+        self.assertEqual(self.mirror.session.asked, ["GET 1 GL 3", "SET 1 GL 3 2 0 28"] * 2)
 
     async def test_a_topic_that_nobody_asked_for(self):
         for self.bridge.following in (False, True):
