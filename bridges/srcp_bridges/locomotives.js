@@ -90,7 +90,7 @@ function makeFunction(key, n) {
 function makeCard(key, loco) {
   const named = name(key);
   const input = make("input", { type: "range", min: 0, max: steps(loco), ariaLabel: text("speedOf", { name: named }) });
-  loco.slider = new Slider(input, v => drive(key, { v }));
+  loco.slider = new Slider(input, v => drive(key, { v }), () => speed(loco));
   loco.shown = make("span", { className: "speed" });
   loco.about = make("small");
   loco.back = button("◀", text("backward"), () => drive(key, { mode: 0, v: 0 }));

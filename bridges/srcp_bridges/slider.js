@@ -9,9 +9,10 @@ const THUMB = 16;                               // pixels that the thumb of the 
 export class Slider {
   #grip = null;                                 // of the pointer that is down: its id, where, and the value it took
 
-  constructor(input, moved) {
+  constructor(input, moved, now) {              // now: the value that the registry has
     this.input = input;
     this.moved = moved;
+    this.now = now;
     this.rail = make("div", { className: "rail" }, input);
     input.oninput = () => moved(+input.value);
     this.rail.onmousedown = e => e.preventDefault();  // or the focus would leave the slider
@@ -75,7 +76,7 @@ export class Slider {
 
   // The browser scrolls, or has taken the finger away: what it made faster is put back, and nothing is made faster.
   #cancel() {
-    const { from } = this.#grip;
+    const from = Math.min(this.#grip.from, this.now());  // another may have made it slower meanwhile
     this.release();
     if (from < +this.input.value) this.#set(from);
   }

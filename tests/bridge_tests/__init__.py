@@ -53,8 +53,9 @@ def cases_of(*kinds):
 
 from .test_box import Box  # noqa: E402
 from .test_broker import MqttBesideOthers, MqttWithLimits, MqttWithTls  # noqa: E402
-from .test_chromium import WebByTouch, WebInChromium, WebInGerman  # noqa: E402
+from .test_chromium import WebInChromium, WebInGerman  # noqa: E402
 from .test_chromium_silence import WebWithBeats, WebWithSilence  # noqa: E402
+from .test_chromium_touch import WebByTouch  # noqa: E402
 from .test_dcc_ex import DccEx, DccExWithHands, DccExWithLosses  # noqa: E402
 from .test_entrance import Entering, WebBesideManyConnections, WebInTheNetwork, WebWithAWord  # noqa: E402
 from .test_doctor import Doctor  # noqa: E402

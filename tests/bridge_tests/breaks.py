@@ -268,6 +268,8 @@ BREAKS = [  # the file, whose cases, what is wrong, the text, what stands in its
      "if (x < SIDEWAYS || x < y) return;", ""),
     ("slider.js", "web-in-chromium", "a finger that is taken away leaves the train faster",
      "    if (from < +this.input.value) this.#set(from);\n", ""),
+    ("slider.js", "web-in-chromium", "a finger that is taken away makes a train faster that another has slowed down",
+     "Math.min(this.#grip.from, this.now());", "this.#grip.from;"),
     ("slider.js", "web-in-chromium", "a finger that is taken away makes the train faster",
      "if (from < +this.input.value)", "if (from !== undefined)"),
     ("locomotives.js", "web-in-chromium", "a finger that moves on undoes a stop", "  loco.slider?.release();\n", ""),
