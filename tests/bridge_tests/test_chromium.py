@@ -161,6 +161,7 @@ class WebInChromium(ChromiumCase):
         until(lambda: self.told() == ["All locomotives stand.", ""], "the page says so")
         track = self.js("document.getElementById('track').innerText")
         self.assertEqual(track, "Power 1 is off: STOP ALL cut it, since another throttle has a train.")
+        time.sleep(0.5)  # the reply comes behind what the page is told, and has the bar look once more
         self.throttle.order("SET 1 POWER ON")
         self.bar_ends()
 
