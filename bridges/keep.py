@@ -50,6 +50,14 @@ def device_of(command):
         return None
 
 
+def standing(command):
+    """Returns a command with 0 for the speed of a locomotive: a person may have written one into FILE."""
+    words = command.split()
+    if [word.upper() for word in words[0:3:2]] != ["SET", "GL"] or len(words) < 6:
+        return command
+    return " ".join([*words[:5], "0", *words[6:]])
+
+
 def makes(command):
     return command.upper().split()[:1] == ["INIT"]
 
@@ -105,7 +113,7 @@ class Keeper:
     async def order(self, session, command):
         """Returns whether the server has carried out a command."""
         try:
-            await session.ask(command)
+            await session.ask(standing(command))
         except Refused as reply:
             self.refused(command, reply)
             return False

@@ -164,9 +164,9 @@ class Keep(Case):
         self.assertIn("made 1 devices", self.keep.told())
 
     def test_a_file_that_a_person_has_edited(self):
-        """Its words may have any spaces and tabs between them, and before them, as at the server."""
+        """Its words may have any spaces and tabs between them, and before them, as at the server. No train starts."""
         with open(self.path, "w") as file:
-            file.write("  INIT 1 GL 3 N 1 28 5\n\tSET 1 GL 3 0 0 28 1\nINIT\t1  GL 4 N 1 28 1\r\n"
+            file.write("  INIT 1 GL 3 N 1 28 5\n\tset 1  gl 3 0 14 28 1\nINIT\t1  GL 4 N 1 28 1\r\n"
                        "init 1\tGA\t5 n\nset 1\tGA\t5 0 0 -1\nset 1\tGA\t5 1 0 -1\n")
         self.start()
         self.has("100 INFO 1 GL 3 0 0 28 1 0 0 0 0", "101 INFO 1 GL 4 N 1 28 1", "101 INFO 1 GA 5 N")
