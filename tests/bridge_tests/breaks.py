@@ -77,6 +77,7 @@ BREAKS = [  # the file, whose cases, what is wrong, the text, what stands in its
     ("keep", "keep", "FILE is written in place",
      "        with open(self.path + \".new\", \"w\"",
      "        open(self.path, 'w').close()\n        with open(self.path + \".new\", \"w\""),
+    ("keep", "keep", "a speed in FILE is sent", "session.ask(standing(command))", "session.ask(command)"),
     ("keep", "keep", "what FILE should not have is sent",
      "            elif not device:\n                self.refused(command, \"names no device\")",
      "            elif not device:\n                await self.order(session, command)"),
