@@ -60,7 +60,7 @@ from .test_dcc_ex import DccEx, DccExWithHands, DccExWithLosses  # noqa: E402
 from .test_entrance import Entering, WebBesideManyConnections, WebInTheNetwork, WebWithAWord  # noqa: E402
 from .test_doctor import Doctor  # noqa: E402
 from .test_guard import Guard  # noqa: E402
-from .test_hands import HandsBeforeStops  # noqa: E402
+from .test_hands import HandsBeforeRows, HandsBeforeStops  # noqa: E402
 from .test_keep import Keep  # noqa: E402
 from .test_left_out import WebBesideADriver  # noqa: E402
 from .test_log import Log  # noqa: E402
@@ -84,6 +84,7 @@ BRIDGE_CASES = cases_of(Readme, Following, MqttWithAWrongBroker, Stopping, Mqtt,
                         WebInChromium, WebByTouch, WebInGerman, WebWithBeats, WebWithSilence, Web, WebThatSleeps,
                         WebWithAWord, WebWithManyPages, WebWithSilentPages, WebBesideManyConnections, WebInTheNetwork,
                         Entering, WiThrottle, WiThrottleStops, WiThrottleWithBeats, WiThrottleWithRoutes, Srcpd,
-                        SrcpdWithADriver, DccEx, DccExWithLosses, DccExWithHands, HandsBeforeStops, Z21, Z21WithLosses,
-                        Z21WithHands, DccExWithPrograms, Z21WithPrograms, Programming, Doctor, Guard, Keep, Box, Log,
-                        Parsing, Plans, PlanInChromium, LargePlanInChromium, PlanInGerman, WebBesideADriver)
+                        SrcpdWithADriver, DccEx, DccExWithLosses, DccExWithHands, HandsBeforeRows, HandsBeforeStops,
+                        Z21, Z21WithLosses, Z21WithHands, DccExWithPrograms, Z21WithPrograms, Programming, Doctor,
+                        Guard, Keep, Box, Log, Parsing, Plans, PlanInChromium, LargePlanInChromium, PlanInGerman,
+                        WebBesideADriver)

@@ -7,7 +7,8 @@ import signal
 import time
 from typing import Any
 
-from .common import WAIT, Case, Session, is_full, rows, sessions, until
+from .common import WAIT, Case, Session, connects, free_port, is_full, rows, sessions, until
+from .test_web import Events
 
 STANDS = "100 INFO 1 GL 3 1 0 "
 QUIET = 0.4  # seconds for which nothing comes
@@ -305,11 +306,59 @@ class Hands(StationCase):
             self.assertEqual(self.commands("F", begun), [])
             told = ["t 3 0 1"] if act == dict(speed=-1) else []
             self.track(lambda s: self.commands("t", begun) == told, told)
-        self.station.hand(77, speed=40)  # which the registry does not have
-        self.drives()
+
+    def test_what_a_hand_drives_is_made_drives_on_and_is_stopped_with_all(self):
+        """If the registry does not have it. It is made once, and the station is told nothing of it until the stop."""
+        self.station.loses, web = 0, free_port()
+        self.starts("web.py", "--web", web)
+        until(lambda: connects(web), "the page is there")
+        page, panel, begun = Events(web), Session(self.server.port, "INFO"), len(self.station.log)
+        self.station.hand(77, speed=0, way=0)
+        time.sleep(QUIET)
         self.lacks("101 INFO 1 GL 77")
+        for speed in (39, 40):
+            self.station.hand(77, speed=speed, way=0, f1=1)
+        self.has("101 INFO 1 GL 77 N 1 126 29", "100 INFO 1 GL 77 0 40 126 0 1 0")
+        time.sleep(QUIET)
+        self.assertEqual([text for text in self.commands("", begun) if re.match(r"!|\w 77 ", text)], [])
+        until(lambda: page.rows[1, "GL", 77, "does"]["v"] == 40, "the page shows it")
+        self.assertEqual(page.post("", "/stop"), "200 OK")
+        self.has("100 INFO 1 GL 77 0 0 126 0 1 0")
+        self.track(lambda s: s.cabs[77] == (0, 0), "it stands")
+        self.assertEqual(self.commands("t 77", begun), ["t 77 -1 0", "t 77 0 0"])
+        told = panel.hears_until(b" 100 INFO 1 GL 77 0 0 126 0 1" + 27 * b" 0" + b"\n")
+        self.assertEqual((told.count(b" 101 INFO 1 GL 77 "), told.count(b" 100 INFO 1 GL 77 2 0 126 ")), (1, 1))
+
+    def test_what_a_hand_drives_and_the_server_does_not_make(self):
+        """An address above gl_max is told of once. One that is there with another protocol is left as it is, and
+        told to stand if somebody makes it as one that the station drives."""
+        self.station.loses = 0
+        self.throttle.order("INIT 1 GL 77 M 1 28 5")
+        for speed in (40, 41):
+            self.station.hand(10240, speed=speed)
+            self.station.hand(77, speed=speed)
+            self.station.hand(3, speed=2 * speed)
+            self.has(f"100 INFO 1 GL 3 1 {self.step(2 * speed)}")
+        told = "STOP ALL does not reach locomotive 10240, which a hand throttle drives: the server says 412"
+        self.assertEqual((self.driver.told().count(told), self.driver.told().count("10240")), (1, 1))
+        self.assertEqual((self.station.cabs[10240], self.station.cabs[77]), ((41, 1), (41, 1)))
+        self.has("101 INFO 1 GL 77 M 1 28 5", "100 INFO 1 GL 77 1 0 0")
         self.throttle.order("INIT 1 GL 77 N 1 126 5")
         self.track(lambda s: s.cabs[77] == (0, 1), "it stands, as its new row says")
+        time.sleep(QUIET)  # the station says so first
+        self.station.hand(77, speed=41)
+        self.has("100 INFO 1 GL 77 1 41 126")
+
+    def test_what_a_hand_begins_to_drive_while_the_server_is_away(self):
+        """It stands when the server is back."""
+        self.station.loses = 0
+        joined = self.driver.told().count("started anew")
+        self.server.stop()
+        self.station.hand(77, speed=40)
+        self.restart()
+        until(lambda: self.driver.told().count("started anew") > joined, "it has joined")
+        self.track(lambda s: s.cabs[77] == (0, 1), "it stands")
+        time.sleep(QUIET)  # the station says so first
         self.station.hand(77, speed=41)
         self.has("100 INFO 1 GL 77 1 41 126")
 

@@ -1,4 +1,4 @@
-"""What a hand throttle at a station did, and a stop that comes before the registry is told of it."""
+"""What a hand throttle at a station did, and what comes before the registry is told of it."""
 import types
 import unittest
 from unittest import mock
@@ -19,13 +19,96 @@ class HandsBeforeStops(unittest.IsolatedAsyncioTestCase):
 
         mirror = types.SimpleNamespace(stops=Stops(), session=True, ask=ask)
         track = types.SimpleNamespace(top_of=lambda address: 126, mark=marked.append)
-        holds = types.SimpleNamespace(keep=marked.append)
+        holds = types.SimpleNamespace(keep=marked.append, losses=0)
         hands = Hands(types.SimpleNamespace(number=1, track=track, orders=Orders(mirror), mirror=mirror, holds=holds))
-        hands.drives(3, 45, 1, Drive(0, 1, 0, 126, ()))
+        hands.drives(3, 45, 1, Drive(0, 1, 0, 126, ()), (0, 0))
         mirror.stops.stopped(1, 3)
         with mock.patch("srcp_bridges.stations.registry.say"):
             await hands.orders.carry_out()
         self.assertEqual((asked, marked), ([], [("cab", 3)]))
-        hands.drives(3, 46, 1, Drive(0, 2, 0, 126, ()))  # by who has seen that it was stopped
+        hands.drives(3, 46, 1, Drive(0, 2, 0, 126, ()), (1, 0))  # by who has seen that it was stopped
         await hands.orders.carry_out()
         self.assertEqual(asked, ["SET 1 GL 3 1 46 126"])
+
+
+class HandsBeforeRows(unittest.IsolatedAsyncioTestCase):
+    """A bus beside a server that is played here, and a locomotive 77 that it does not have and that a hand drives."""
+    program = "hands"
+    GET, INIT = "GET 1 GL 77", "INIT 1 GL 77 N 1 126 29"
+
+    async def asyncSetUp(self):
+        from srcp_bridges.stations.bus import Bus
+        from srcp_bridges.stations.hands import Hands
+        asked = types.SimpleNamespace(bus=1, patience=1, host="", port=0, again=1, turnout_pace=1)
+        self.bus = Bus(asked, {}, lambda: None)
+        self.hands = Hands(self.bus)
+        self.asked, self.between = [], lambda: None
+        self.bus.mirror.session, self.bus.mirror.ask = True, self.answers
+        self.bus.station_comes()
+
+    async def answers(self, command):
+        from srcp_bridges.rows import Refused
+        self.asked.append(command)
+        if command == self.GET:
+            if row := self.bus.mirror.rows.get((1, "GL", 77, "does")):
+                return row
+            raise Refused("416 ERROR no data")
+        if command == self.INIT:
+            self.tells("101 INFO 1 GL 77 N 1 126 29", "100 INFO 1 GL 77 1 0 0" + 29 * " 0")
+            self.between()
+
+    def tells(self, *lines):
+        for line in lines:
+            self.bus.mirror.take("1.5 " + line)
+
+    async def told(self, before=lambda: None, between=lambda: None):
+        """What the station is to be told of it, if so much happens before the GET, and between the INIT and the SET."""
+        self.between = between
+        self.hands.locomotive(77, 40, 1, 0)
+        before()
+        with mock.patch("srcp_bridges.stations.registry.say"):
+            await self.hands.orders.carry_out()
+        return next((waiting["cab", 77] for waiting in self.bus.track.waiting if ("cab", 77) in waiting), None)
+
+    async def test_what_is_made_is_set_as_a_hand_drives_it(self):
+        self.assertIsNone(await self.told(between=lambda: self.hands.locomotive(77, 41, 0, 0)))
+        self.assertEqual(self.asked, [self.GET, self.INIT, "SET 1 GL 77 0 41 126"])
+        self.assertEqual(self.bus.track.told["cab", 77], (41, 0))
+
+    async def test_what_is_made_stands_after_a_stop(self):
+        self.assertEqual(await self.told(between=lambda: self.tells("100 INFO 1 GL 77 2 0 0" + 29 * " 0")), (-1, 1))
+        self.assertEqual(self.asked, [self.GET, self.INIT])
+
+    async def test_what_is_made_stands_after_a_loss_behind_the_init(self):
+        """As after a power that went off for a stop of all."""
+        self.assertEqual(await self.told(between=lambda: self.tells("100 INFO 1 POWER OFF stop all")), (0, 1))
+        self.assertEqual(self.asked, [self.GET, self.INIT])
+
+    async def test_what_is_made_stands_after_a_loss_before_the_init(self):
+        self.assertEqual(await self.told(lambda: self.tells("100 INFO 1 POWER OFF stop all")), (0, 1))
+        self.assertEqual(self.asked, [self.GET, self.INIT])
+
+    async def test_two_reports_at_once_make_one(self):
+        """The second comes while the server makes it, and is the one that counts."""
+        async def late(command, answers=self.bus.mirror.ask):
+            if command == self.INIT:
+                self.hands.locomotive(77, 41, 1, 0)
+            return await answers(command)
+
+        self.bus.mirror.ask = late
+        self.assertIsNone(await self.told(lambda: self.hands.locomotive(77, 39, 1, 0)))
+        self.assertEqual(self.asked, [self.GET, self.INIT, "SET 1 GL 77 1 41 126"])
+
+    async def test_one_that_somebody_else_makes_first_stands(self):
+        rows = "101 INFO 1 GL 77 N 1 126 5", "100 INFO 1 GL 77 1 0 0 0 0 0 0 0"
+        self.assertEqual(await self.told(lambda: self.tells(*rows)), (0, 1))
+        self.assertEqual(self.asked, [self.GET])
+
+    async def test_an_echo_and_a_stand_make_nothing(self):
+        """Of one that was taken out while its echo was on the way, and of one that a hand has stand."""
+        self.hands.reports.telling(("cab", 77), (63, 1))
+        self.hands.reports.telling(("cab", 77), (0, 1))
+        for speed, functions in ((63, 0), (63, 1), (0, 1)):
+            self.hands.locomotive(77, speed, 1, functions)
+        self.hands.locomotive(78, 0, 0, 0)
+        self.assertEqual(self.hands.orders.due, {})

@@ -176,12 +176,13 @@ class Z21WithPrograms(Programs, Z21Case):
         self.assertEqual((self.station.power, self.station.cabs[3], self.told()), (1, (63, 1), []))
         self.may()
         self.station.loses = 0
-        self.station.hand(77, speed=40)
-        until(lambda: self.asks("READ 1")[0].startswith("413 locomotive 77 drives"), "that of a hand")
+        self.throttle.order("INIT 1 GL 76 M 1 28 0")
+        self.station.hand(10240, speed=40)
+        until(lambda: self.asks("READ 1")[0].startswith("413 locomotive 10240 drives"), "one that is not made")
         self.station.hand(76, speed=40)
-        until(lambda: self.asks("READ 1")[0].startswith("413 locomotive 76 drives"), "another one")
+        until(lambda: self.asks("READ 1")[0].startswith("413 locomotive 76 drives"), "one that has another protocol")
         self.throttle.order("INIT 1 GL 76 N 1 28 0")  # the registry has it now, and has it stand
-        self.station.hand(77, speed=0)
+        self.station.hand(10240, speed=0)
         until(lambda: self.asks("READ 1") == ["200 3"], "all stand")
         self.has("100 INFO 1 POWER OFF programming", "100 INFO 1 GL 3 1 0 28")
         self.throttle.order("SET 1 GL 3 1 14 28")

@@ -136,6 +136,8 @@ class Bus:
         if self.patience_ends:
             self.patience_ends.cancel()
         self.holds.server_comes()
+        for address in list(self.track.others if anew else ()):  # while it was away, hands had them drive: they stand
+            self.track.take_in(address)
         self.track.mark_all()
         self.joined.set()
 

@@ -2,9 +2,11 @@
 from functools import partial
 
 from srcp_bridges.driving import switch
-from srcp_bridges.rows import FORWARD
+from srcp_bridges.program import say
+from srcp_bridges.rows import FORWARD, Refused
 from srcp_bridges.stations.registry import POWER
 from srcp_bridges.stations.reports import Reports
+from srcp_bridges.stations.track import FUNCTIONS
 from srcp_bridges.stop import send, stop_one
 
 # Why the power is off.
@@ -13,7 +15,10 @@ PROGRAMS = "programming"
 
 
 class Hands:
-    """An echo of what the station was told changes nothing; what else it reports is ordered at the registry."""
+    """An echo of what the station was told changes nothing; what else it reports is ordered at the registry.
+
+    `refused` has the locomotives that a hand drives and that the server does not make.
+    """
 
     def __init__(self, bus):
         self.bus = bus
@@ -21,6 +26,8 @@ class Hands:
         self.orders = bus.orders
         self.mirror = bus.mirror
         self.reports = Reports()
+        self.refused: set[int] = set()
+        self.track.drive_on = self.locomotive
 
     def is_news(self, part, value, usual=None):
         """Returns whether a report is no echo; what the station was told last is then what it reports."""
@@ -43,17 +50,21 @@ class Hands:
         """The station has cut its power. It would try again by itself: so it is told to stay off."""
         self.bus.lose("overload")
 
-    def locomotive(self, address, speed, way, functions):
-        """Takes a report of a locomotive; `functions` has a bit for each. What the registry has not is not its own."""
+    def locomotive(self, address, speed, way, functions, seen=None):
+        """Takes a report of a locomotive; `functions` has a bit for each. `seen`: the stops and losses counted then."""
         made, drive = self.track.locomotive(address)
-        self.track.others.pop(address, None)
+        seen = seen or (self.mirror.stops.count(self.bus.number, address), self.bus.holds.losses)
+        part, value = ("cab", address), (speed, way)
         if not made:
-            self.track.others[address] = speed
+            self.track.others[address] = speed, way, functions, seen
+            if self.reports.is_news(part, value, (0, FORWARD)):
+                del self.reports.reported[part]  # it is news again once the registry has that locomotive
+                if speed > 0:
+                    self.orders.put(part, partial(self.make, address))
             return
         self.track.known.add(address)
-        part = "cab", address
-        if self.is_news(part, (speed, way), (0, FORWARD)):
-            self.drives(address, speed, way, drive)
+        if self.is_news(part, value, (0, FORWARD)):
+            self.drives(address, speed, way, drive, seen)
         for number in range(len(drive.functions)):
             value = functions >> number & 1
             if self.is_news(("function", address, number), value, 0):
@@ -61,15 +72,38 @@ class Hands:
                 act = partial(switch, self.mirror, ask, self.bus.number, address, {number: value})
                 self.orders.put(("function", address, number), act)
 
-    def drives(self, address, speed, way, drive):
+    async def make(self, address):
+        """Makes a locomotive that a hand drives, unless it is there. Once its row is told, that is set as it drives."""
+        if await self.mirror.has((self.bus.number, "GL", address, False)):
+            return
+        self.track.making.add(address)
+        made = f"GL {address} N 1 {self.track.top_of(address)} {FUNCTIONS}"
+        try:
+            return await self.mirror.ask(f"INIT {self.bus.number} {made}")
+        except ConnectionError:
+            pass  # it stands when the server is back
+        except Refused as reply:
+            if address not in self.refused:
+                say(f"STOP ALL does not reach locomotive {address}, which a hand throttle drives: "
+                    f"the server says {reply}")
+            self.refused.add(address)
+        self.track.making.discard(address)
+
+    def drives(self, address, speed, way, drive, seen):
         """A hand throttle drives a locomotive. If its row may not be changed, or was stopped meanwhile, the station is
         told the row again, but a stop stays."""
         part, command = ("cab", address), f"SET {self.bus.number} GL {address} {way}"
-        stays, stops = partial(self.bus.holds.keep, part), self.mirror.stops
+        stays = partial(self.bus.holds.keep, part)
         if speed > 0:
-            command, seen = f"{command} {speed} {self.track.top_of(address)}", stops.count(self.bus.number, address)
-            self.orders.put(part, partial(send, stops, self.mirror, command, seen), partial(self.track.mark, part))
+            command = f"{command} {speed} {self.track.top_of(address)}"
+            self.orders.put(part, partial(self.start, command, *seen), partial(self.track.mark, part))
         elif drive.v and speed < 0:
             self.orders.put(part, partial(stop_one, self.mirror, self.mirror.ask, self.bus.number, address), stays)
         elif drive.v or way != self.mirror.way(self.bus.number, address):
             self.orders.command(part, f"{command} 0 {drive.v_max}", stays)
+
+    async def start(self, command, stops, losses):
+        """Has a locomotive drive, if it was not stopped and nothing was lost since a hand had it drive."""
+        if self.bus.holds.losses > losses:
+            raise Refused("something was lost meanwhile")
+        await send(self.mirror.stops, self.mirror, command, stops)

@@ -23,6 +23,7 @@ class Holds:
         self.why = self.AWAY
         self.station = False  # the station is there
         self.lost = False  # the server was away for too long
+        self.losses = 0  # how often something was lost
 
     def rows(self):
         """Yields the parts of this bus that can be held, and their rows."""
@@ -50,6 +51,7 @@ class Holds:
 
     def lose(self, why):
         """Holds all that is on or drives: something was lost."""
+        self.losses += 1
         for part, row in self.rows():
             if moves(row):
                 self.hold(part, row, why)

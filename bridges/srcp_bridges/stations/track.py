@@ -35,7 +35,9 @@ class Track:
         self.not_before = [0.0] * 5
         self.stops: set[int] = set()  # locomotives of whose emergency stop the station is still to be told
         self.known: set[int] = set()
-        self.others: dict[int, int] = {}  # speeds of locomotives that the registry has not, as the station reports
+        self.others: dict[int, tuple] = {}  # what the station reports of locomotives that the registry has not
+        self.making: set[int] = set()  # locomotives that this program makes, since a hand drives them
+        self.drive_on: Callable = lambda address, *report: None  # takes again what was reported of one that was made
         self.slots = None
         self.changed = asyncio.Event()
         self.tops: tuple[int, ...] = TOPS
@@ -111,9 +113,14 @@ class Track:
             self.mark(part)
 
     def take_in(self, address):
-        """A locomotive is made that a hand may have driving already: the station is told to do as its row says."""
-        if speed := self.others.pop(address, 0):
-            self.told["cab", address] = speed, None
+        """A locomotive is made that a hand may have driving already. One that this program makes drives on. If somebody
+        else makes it, the station is told to do as its row says."""
+        report, is_ours = self.others.pop(address, None), address in self.making
+        self.making.discard(address)
+        if report and is_ours:
+            return self.drive_on(address, *report)
+        if report and report[0] > 0:
+            self.told["cab", address] = report[0], None
         self.mark_locomotive(address)
 
     def mark_all(self):
@@ -164,7 +171,7 @@ class Track:
         """Returns the locomotives that drive, or are about to: none if the power is off."""
         told = [part[1] for part in self.told if part[0] == "cab" and self.speed(part[1]) > 0]
         waiting = [part[1] for part in self.waiting[DRIVING]]
-        others = [address for address, speed in self.others.items() if speed > 0]
+        others = [address for address, (speed, *_) in self.others.items() if speed > 0]
         return sorted(told + waiting + others) if self.told.get(POWER) else []
 
     def tell(self, part, value):
