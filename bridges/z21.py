@@ -124,6 +124,7 @@ class Z21(Confirmed):
         self.heard_power(int(not status & NOT_DRIVING), PROGRAMS if status & PROGRAMMING else OFF)
 
     def locomotive(self, address, steps, code, functions):
+        self.track.steps[address] = steps
         top, speed = self.track.top_of(address), datasets.speed_of(code & 127, steps)
         if steps != top and speed > 0:  # a hand throttle drives it in other steps
             speed = -(-speed * top // steps)

@@ -134,6 +134,7 @@ STATION_BREAKS = [  # the file, whose cases, what is wrong, the text, what stand
      "                if speed > 0:\n", "                if False:\n"),
     ("hands", "dcc-ex", "what a hand alone has stand is made",
      "                if speed > 0:\n", "                if True:\n"),
+    ("z21", "z21", "what is made has other steps than its decoder", "        self.track.steps[address] = steps\n", ""),
     ("hands", "dcc-ex", "what is made is not set as it drives",
      "                del self.reports.reported[part]  #", "                pass  #"),
     ("hands", "hands", "an echo makes a locomotive",

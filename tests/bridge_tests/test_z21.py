@@ -192,6 +192,15 @@ class Z21WithHands(Hands, Z21Case):
         self.has("100 INFO 1 GL 3 1 23 28")
         self.assertEqual(self.commands("t 3")[-1], "t 3 63 1")
 
+    def test_what_a_hand_drives_is_made_in_its_steps(self):
+        """Its decoder may know no others: it would miss a stop."""
+        self.station.loses, self.station.steps[77] = 0, 2
+        self.station.hand(77, speed=63)
+        self.has("101 INFO 1 GL 77 N 1 28 29", "100 INFO 1 GL 77 1 14 28")
+        self.throttle.order("SET 1 GL 77 2 0 28")
+        self.track(lambda s: s.cabs[77] == (-1, 1), "it stops")
+        self.assertEqual((self.commands("t 77"), self.station.steps[77]), (["t 77 -1 1"], 2))
+
     def test_what_a_hand_does_while_all_is_lost(self):
         """The driver asks for it again and again."""
         self.station.loses = 1

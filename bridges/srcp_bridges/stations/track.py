@@ -38,6 +38,7 @@ class Track:
         self.others: dict[int, tuple] = {}  # what the station reports of locomotives that the registry has not
         self.making: set[int] = set()  # locomotives that this program makes, since a hand drives them
         self.drive_on: Callable = lambda address, *report: None  # takes again what was reported of one that was made
+        self.steps: dict[int, int] = {}  # the numbers of steps in which the station reports locomotives
         self.slots = None
         self.changed = asyncio.Event()
         self.tops: tuple[int, ...] = TOPS
@@ -90,7 +91,9 @@ class Track:
         return next((top for top in self.tops if made and made.steps <= top), self.tops[-1])
 
     def top_of(self, address):
-        return self.top(self.locomotive(address)[0])
+        """Returns the fastest step of a locomotive: as the registry has it, else as the station reports it."""
+        made, _ = self.locomotive(address)
+        return self.top(made) if made else self.steps.get(address, self.tops[-1])
 
     # ---- what differs
 
