@@ -120,6 +120,7 @@ STATION_BREAKS = [  # the file, whose cases, what is wrong, the text, what stand
      "self.others.pop(address, None), address in", "self.others.get(address), address in"),
     ("track", "dcc-ex", "one that somebody makes while a hand drives it drives on unseen",
      "            self.told[\"cab\", address] = report[0], None\n", "            pass\n"),
+    ("track", "dcc-ex", "one that is gone and stands is told to stand", "if report and report[0] > 0:", "if report:"),
     ("track", "hands", "one that somebody else makes is set as a hand drives it",
      "if report and is_ours:", "if report:"),
     ("track", "dcc-ex", "what is made stands for a moment",
