@@ -1,6 +1,6 @@
 -- To be believed: the answer to a line, for each thing that a line asks for. A law says it of the acts.
-use Rattle.std.specs.Prelude.{◌≡◌, ℕ, ◌+◌, Bool, true, not, ◌&&◌, ◌||◌, if◌then◌else◌, List, [], ◌∷◌, fold, nat_lt, Ok}
-use Rattle.std.specs.Prelude.{Err}
+use Rattle.std.specs.Prelude.{◌≡◌, ℕ, ◌+◌, ◌==◌, Bool, true, false, not, ◌&&◌, ◌||◌, if◌then◌else◌, List, [], ◌∷◌}
+use Rattle.std.specs.Prelude.{fold, nat_lt, Ok, Err, Some, None}
 use Rattle.srcp_info.specs.Limits.{greatest_id}
 use Rattle.srcp_info.specs.declared.change.Code.{Code}
 use Rattle.srcp_info.specs.declared.change.Code.TheVariants.{C500}
@@ -10,9 +10,11 @@ use Rattle.srcp_grammar.specs.declared.command.Command.{Command}
 use Rattle.srcp_grammar.specs.declared.layout.Bus.{Bus}
 use Rattle.srcp_rules.specs.Effect.{Effect, effect as effect_of}
 use Rattle.srcp_rules.specs.Steps.{Order, Obeyed, Began, Ended, effect, wants_memory}
-use Rattle.srcp_core.specs.Acts.{acts}
-use Rattle.srcp_core.specs.Course.{World, act, at_connection, did, entered, replied, state}
-use Rattle.srcp_core.specs.Handshake.{Speaks, Chooses, Goes, Refuses}
+use Rattle.srcp_text.specs.Marks.{Mark}
+use Rattle.srcp_core.specs.Acts.{acts, command_of, wants}
+use Rattle.srcp_core.specs.Connection.{Connection}
+use Rattle.srcp_core.specs.Course.{World, act, answered_as, asked, at_connection, did, entered, replied, state}
+use Rattle.srcp_core.specs.Handshake.{Speaks, Chooses, Goes, Refuses, greets}
 use Rattle.srcp_core.specs.Held.{Held}
 use Rattle.srcp_core.specs.Machine.{answered, carried, changed_at, freed_of, one_denied, session_begun, steps_answered}
 use Rattle.srcp_core.specs.Machine.{replied as reply_held}
@@ -43,6 +45,34 @@ module _ (buses : List Bus) (n : ℕ) (w : World) (granted : Bool) where
         answered_in (Commands session (Ok command))
         ≡ (if result.ends
         then did (Ended session w.moment) (at_connection n (λ conn. record conn { ended = true }) after) else after)
+
+  -- the same by how the connection stands; what comes to an information session or after the end is dropped
+  pub record AnswersByConnection (mark : Mark) : Type 0 where
+    pub none : answered_as buses n None (record { mark = mark; granted = granted }) w ≡ w
+    pub some : (conn : Connection) → answered_as buses n (Some conn) (record { mark = mark; granted = granted }) w
+        ≡ (if conn.info || conn.ended then w
+        else (if conn.session == 0 then answered_in (Greets conn.mode (greets mark))
+        else answered_in (Commands conn.session (command_of buses mark))))
+
+-- whether a line wants memory
+module _ (buses : List Bus) (w : World) where
+  abbrev pub wants_in : Request → Bool
+  wants_in = wants (state buses w) w.last_id w.moment
+
+  pub record WantsByRequest : Type 0 where
+    pub dropped : wants_in Dropped ≡ false
+    pub speaks : (mode : Mode) → wants_in (Greets mode Speaks) ≡ false
+    pub chooses : (mode chosen : Mode) → wants_in (Greets mode (Chooses chosen)) ≡ false
+    pub goes : (mode : Mode) → wants_in (Greets mode Goes) ≡ nat_lt w.last_id greatest_id
+    pub refuses : (mode : Mode) (code : Code) → wants_in (Greets mode (Refuses code)) ≡ false
+    pub errs : (session : ℕ) (code : Code) → wants_in (Commands session (Err code)) ≡ false
+    pub obeys : (session : ℕ) (command : Command) → wants_in (Commands session (Ok command))
+        ≡ wants_memory (state buses w) session w.moment command
+    pub none : (mark : Mark) → wants_in (asked buses None mark) ≡ false
+    pub some : (conn : Connection) (mark : Mark) → wants_in (asked buses (Some conn) mark)
+        ≡ (if conn.info || conn.ended then false
+        else (if conn.session == 0 then wants_in (Greets conn.mode (greets mark))
+        else wants_in (Commands conn.session (command_of buses mark))))
 
 -- what it makes of what is held, and the steps that a run records of it
 module _ (held : Held) (granted : Bool) where

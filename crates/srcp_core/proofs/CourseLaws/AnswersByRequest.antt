@@ -1,10 +1,11 @@
--- What a line is answered, for each thing that it asks for.
-use Rattle.srcp_core.proofs.Names.{◌≡◌, ℕ, Bool, true, false, not, ◌&&◌, ◌||◌, List, if◌then◌else◌, refl, nat_lt, ⊎_elim, cases_Bool}
-use Rattle.srcp_core.proofs.Names.{ap, Bus, C500, Command, Effect, Held, Order, Refused, World, effect, one_denied, refused, state}
-use Rattle.srcp_core.proofs.Names.{wants_memory}
+-- What a line is answered and whether it wants memory, for each thing that it asks for.
+use Rattle.srcp_core.proofs.Names.{◌≡◌, ℕ, ◌==◌, Bool, true, false, not, ◌&&◌, ◌||◌, List, if◌then◌else◌, refl, nat_lt, ⊎_elim, cases_Bool}
+use Rattle.srcp_core.proofs.Names.{ap, asked, Bus, C500, Command, Commands, Connection, Dropped, Effect, Greets, Held, Mark, Order, Refused}
+use Rattle.srcp_core.proofs.Names.{Request, Some, World, command_of, effect, greets, one_denied, refused, state, wants_memory}
 use Rattle.srcp_info.specs.Limits.{greatest_id}
 use Rattle.srcp_rules.specs.Steps.{effect as effect_of_order}
-use Rattle.srcp_core.specs.Answered.{AnswersHeld, AnswersInCourse, AreStepsOfAnswers}
+use Rattle.srcp_core.specs.Answered.{AnswersByConnection, AnswersHeld, AnswersInCourse, AreStepsOfAnswers, WantsByRequest}
+use Rattle.srcp_core.specs.Answered.{answered_in, wants_in}
 use Rattle.srcp_core.specs.Machine.{carried, changed_at, freed_of, replied}
 
 pub answers_in_course : (buses : List Bus) (n : ℕ) (w : World) (granted : Bool) → AnswersInCourse buses n w granted
@@ -19,6 +20,35 @@ answers_in_course buses n w granted = record {
       λ session command.
       let order : Order = record { command = command; granted = granted } in
       ⊎_elim (λ e. rw e refl) (λ e. rw e refl) (cases_Bool (effect_of_order (state buses w) session w.moment order).ends);
+}
+
+-- what is made of what a line asks for is made of one of three requests
+asked_by_connection : {X : Type 0} (buses : List Bus) (conn : Connection) (mark : Mark) (f : Request → X)
+    → f (asked buses (Some conn) mark)
+    ≡ (if conn.info || conn.ended then f Dropped
+    else (if conn.session == 0 then f (Greets conn.mode (greets mark)) else f (Commands conn.session (command_of buses mark))))
+asked_by_connection buses conn mark f =
+    ⊎_elim (λ e. rw e refl) (λ e. rw e (⊎_elim (λ t. rw t refl) (λ t. rw t refl) (cases_Bool (conn.session == 0))))
+    (cases_Bool (conn.info || conn.ended))
+
+pub answers_by_connection : (buses : List Bus) (n : ℕ) (w : World) (granted : Bool) (mark : Mark)
+    → AnswersByConnection buses n w granted mark
+answers_by_connection buses n w granted mark = record {
+  none = refl;
+  some = λ conn. asked_by_connection buses conn mark (answered_in buses n w granted);
+}
+
+pub wants_by_request : (buses : List Bus) (w : World) → WantsByRequest buses w
+wants_by_request buses w = record {
+  dropped = refl;
+  speaks = λ mode. refl;
+  chooses = λ mode chosen. refl;
+  goes = λ mode. refl;
+  refuses = λ mode code. refl;
+  errs = λ session code. refl;
+  obeys = λ session command. refl;
+  none = λ mark. refl;
+  some = λ conn mark. asked_by_connection buses conn mark (wants_in buses w);
 }
 
 module _ (held : Held) where
