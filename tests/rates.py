@@ -1,11 +1,12 @@
 """How fast a panel has to read beside sessions that send without end, and how many changes may come at one moment."""
 import os
 import signal
+import threading
 import time
 from contextlib import contextmanager
 
 from door import small_socket
-from pacing import in_a_process, sending_without_end
+from pacing import in_a_process, running, send_all, sending_without_end, shut
 from serving import LAYOUT, Client, served
 
 # The bytes of a line that tells a change of FB 1.
@@ -15,6 +16,8 @@ SECONDS_OF_LOAD = 5
 LONGEST_UNTIL_CLOSED = 15
 # For how many milliseconds a panel is kept at least whose socket takes nothing more.
 KEPT = 150
+PANELS = 8
+MOST_CHANGES = 40_000
 LOCOMOTIVES = 10_239
 MAKERS = 32
 STOPS = 9
@@ -99,50 +102,46 @@ def panel_that_reads_slower_than_a_line_a_millisecond(program):
     return f"it is not closed in {LONGEST_UNTIL_CLOSED} s" if closed is None else None
 
 
-def answered(asker, command):
-    """Returns the moment of a reply in milliseconds, and its text."""
-    asker.socket.sendall(command.encode() + b"\n")
-    line = asker.line()
-    return moment_of(line), line.split(b" ", 1)[1].decode().strip()
-
-
 def moment_of(line):
     """Returns the stamp of a line in milliseconds."""
     return int(line.split(b" ", 1)[0].replace(b".", b""))
 
 
-def moment_of_the_close(asker, session):
-    """Returns the moment of the first reply that says that a session is gone."""
-    end = time.monotonic() + LONGEST_UNTIL_CLOSED
-    while time.monotonic() < end:
-        moment, reply = answered(asker, f"GET 0 SESSION {session}")
-        if reply == GONE:
-            return moment
-        time.sleep(0.002)
-    raise TimeoutError(f"session {session} is not closed in {LONGEST_UNTIL_CLOSED} s")
+def moments_until_gone(asker):
+    """Returns the moments of the replies 200 that come before the first reply that says that a session is gone."""
+    moments, gone = [], GONE.encode()
+    while gone not in (line := asker.line()):
+        if line.endswith(b" 200 OK\n"):
+            moments.append(moment_of(line))
+    return moments
 
 
 def milliseconds_until_closed(program, locomotives):
-    """Returns for how long a panel that does not read is kept at the least once its socket takes nothing more. That is
-    so from the last change on that it is sent, or from the first change on if its listing fills all buffers. The stamps
-    of the server tell: a busy machine makes that longer, and never shorter."""
+    """Returns in how many different milliseconds changes are made between the last line that a panel is sent and its
+    close. It does not read, and is kept for so long at the least once its socket takes nothing more. On a busy machine
+    it is kept longer, but a wrong door makes changes in no more milliseconds. The panel is that of some which is closed
+    first, since the listing of one or another leaves no space for a change."""
     with served(program) as (port, _):
-        asker = Client(port, "COMMAND")
-        asker.asks_many([f"INIT 1 GL {address} N 1 28 5" for address in range(1, locomotives + 1)])
-        throttles = [Client(port, "COMMAND") for _ in range(4)]
-        panel = Client(port, "INFO")
+        throttle = Client(port, "COMMAND")
+        throttle.asks_many([f"INIT 1 GL {address} N 1 28 5" for address in range(1, locomotives + 1)])
+        panels = [Client(port, "INFO") for _ in range(PANELS)]
         time.sleep(0.5)
-        begun, _ = answered(asker, "CHECK 1 POWER ON")
-        with sending_without_end(throttles, b"SET 1 POWER ON %d\n"):
-            closed = moment_of_the_close(asker, panel.session)
-        told = panel.hears_to_the_end()
+        commands = b"".join(b"SET 1 POWER ON %d\nGET 0 SESSION %d\n" % (number, panels[number % PANELS].session)
+                            for number in range(MOST_CHANGES))
+        with running([threading.Thread(target=send_all, args=(throttle, commands))]):
+            try:
+                moments = moments_until_gone(throttle)
+            finally:
+                shut([throttle])
+        told = panels[(len(moments) - 1) % PANELS].hears_to_the_end()
     # The last line may be cut.
     last = max(moment_of(line) for line in told[:told.rfind(b"\n")].split(b"\n"))
-    return closed - max(begun, last)
+    return len({moment for moment in moments if moment > last})
 
 
 def panel_whose_socket_takes_nothing_more(program):
-    """It is closed 150 ms later or more beside sessions that send without end, also if it does not read its listing."""
+    """It is closed 150 ms later or more beside a session that sends without end. So is one that did not read its
+    listing."""
     for locomotives in (0, LOCOMOTIVES):
         if (kept := milliseconds_until_closed(program, locomotives)) < KEPT:
             return f"with {locomotives} locomotives it is closed {kept} ms later"
