@@ -6,7 +6,8 @@ import time
 from pathlib import Path
 
 from faults import Filter
-from serving import SECONDS, Client, served
+from pacing import sending_without_end
+from serving import SECONDS, Client, TriedNothing, served
 
 PANELS = 62
 ROUNDS = 20
@@ -20,8 +21,15 @@ LINGER_SECONDS = 10
 # How many seconds after its close a panel reads that is in time, and how many one that is late.
 IN_TIME = LINGER_SECONDS - 3
 LATE = LINGER_SECONDS + 2
-# How many bytes its own system holds for a panel that did not read.
+# How many bytes its own system holds for a panel that did not read, and how many are on its way in all.
 HELD_BY_ITS_OWN = 110_000
+ON_ITS_WAY = 400_000
+CHANGES_ON_ITS_WAY = 10_000
+# More than so many bytes its own system comes to hold for a panel that reads fast beside some sessions.
+GROWN = 1_000_000
+SENDERS = 8
+# The least, the usual and the most that a system of Linux holds for a socket.
+TCP_RMEM = Path("/proc/sys/net/ipv4/tcp_rmem")
 
 
 def vanish(client):
@@ -82,6 +90,11 @@ def peers_that_vanish(program):
     return f"{LOST_SECONDS + SECONDS} s later it answers {sorted(left)}" if left else None
 
 
+def is_gone(panel, asker):
+    """Returns whether the session of a panel is gone."""
+    return " ERROR " in asker.asks(f"GET 0 SESSION {panel.session}")
+
+
 def panel_that_was_closed_and_does_not_read(program):
     """The system holds something for it for 10 seconds, and then nothing: the connection is reset."""
     with served(program) as (port, _):
@@ -89,7 +102,7 @@ def panel_that_was_closed_and_does_not_read(program):
         panel = Client(port, "INFO", SMALL)
         for _ in range(ROUNDS):
             throttle.asks_many(["SET 1 FB 8 1", "SET 1 FB 8 0"] * COMMANDS)
-            if " ERROR " in throttle.asks(f"GET 0 SESSION {panel.session}"):
+            if is_gone(panel, throttle):
                 break
         at_once = max(held_by_the_system(port))
         time.sleep(LINGER_SECONDS + 2)
@@ -99,16 +112,40 @@ def panel_that_was_closed_and_does_not_read(program):
 
 
 def panels_that_overran(port, count):
-    """Returns panels that read their listing and no more, once all of them are closed."""
+    """Returns panels that read their listing and no more, once all of them are closed: each with the moment at which it
+    was found closed, by these moments."""
     throttle = Client(port, "COMMAND")
-    panels = [Client(port, "INFO") for _ in range(count)]
+    panels, closed = [Client(port, "INFO") for _ in range(count)], {}
     for panel in panels:
         panel.hears_until(b" 1 FB 8 0\n")
     for first in range(0, 4 * ROUNDS * COMMANDS, COMMANDS):
         throttle.asks_many([f"SET 1 POWER ON {number}" for number in range(first, first + COMMANDS)])
-        if all(" ERROR " in throttle.asks(f"GET 0 SESSION {panel.session}") for panel in panels):
+        closed |= {panel: time.monotonic() for panel in panels if panel not in closed and is_gone(panel, throttle)}
+        if len(closed) == count:
             break
-    return panels
+    return list(closed.items())
+
+
+def is_some(number, usual):
+    """Returns whether a number is more than half of the usual one, and less than twice as much."""
+    return usual / 2 < number < 2 * usual
+
+
+def most_held(panel):
+    """Returns how many bytes its own system holds at most for a panel so far."""
+    return panel.socket.getsockopt(socket.SOL_SOCKET, socket.SO_RCVBUF)
+
+
+def panel_that_read_fast(port):
+    """Returns a panel that read until its own system holds much for it. If that takes a second, another comes."""
+    for _ in range(SECONDS):
+        panel, end = Client(port, "INFO"), time.monotonic() + 1
+        while time.monotonic() < end:
+            panel.socket.recv(1 << 20)
+            if most_held(panel) > GROWN:
+                return panel
+        panel.close()
+    raise TriedNothing(f"this system comes to hold no {GROWN} bytes for a panel that reads fast")
 
 
 def sent_to_the_end(panel):
@@ -126,20 +163,33 @@ def panels_that_were_closed_and_read_late(program):
     """One that reads 7 s after its close is sent first what had been sent before, no change missing, and then the end.
     One that reads 12 s after its close finds what its own system holds, some 110 KB, and then the connection reset."""
     with served(program) as (port, _):
-        in_time, late = panels_that_overran(port, 2)
-        closed = time.monotonic()
+        (late, closed), (in_time, _) = panels_that_overran(port, 2)
         time.sleep(IN_TIME)
         past, end = sent_to_the_end(in_time)
         time.sleep(max(closed + LATE - time.monotonic(), 0))
         held, reset = sent_to_the_end(late)
     numbers, kept = ([int(number) for number in re.findall(rb" POWER ON (\d+)\n", text)] for text in (past, held))
-    if end or numbers != list(range(len(numbers))) or len(past) < 2 * HELD_BY_ITS_OWN:
+    is_all = numbers == list(range(len(numbers))) and is_some(len(numbers), CHANGES_ON_ITS_WAY)
+    if end or not is_all or not is_some(len(past), ON_ITS_WAY):
         return f"{IN_TIME} s after its close one is sent {len(past)} bytes with {len(numbers)} changes, then {end}"
-    is_some = HELD_BY_ITS_OWN / 2 < len(held) < 2 * HELD_BY_ITS_OWN
-    if reset != "ConnectionResetError" or kept != numbers[:len(kept)] or not is_some:
+    if reset != "ConnectionResetError" or kept != numbers[:len(kept)] or not is_some(len(held), HELD_BY_ITS_OWN):
         return f"{LATE} s after its close one is sent {len(held)} bytes with {len(kept)} changes, then {reset}"
     return None
 
 
+def panel_that_was_closed_and_had_read_fast(program):
+    """Its own system holds more than 1 MB for it, and at most what `tcp_rmem` says. It is sent that and what the system
+    of the server held, and then the end."""
+    with served(program) as (port, _):
+        asker = Client(port, "COMMAND")
+        with sending_without_end([Client(port, "COMMAND") for _ in range(SENDERS)]):
+            panel, end = panel_that_read_fast(port), time.monotonic() + SECONDS
+            while not is_gone(panel, asker) and time.monotonic() < end:
+                time.sleep(0.05)
+        told, fault = sent_to_the_end(panel)
+    most = int(TCP_RMEM.read_text().split()[-1]) + 2 * MOST_HELD
+    return None if not fault and GROWN < len(told) < most else f"it is sent {len(told)} of {most} bytes, then {fault}"
+
+
 VANISHING_CASES = (panels_that_do_not_read, peers_that_vanish, panel_that_was_closed_and_does_not_read,
-                   panels_that_were_closed_and_read_late)
+                   panels_that_were_closed_and_read_late, panel_that_was_closed_and_had_read_fast)
