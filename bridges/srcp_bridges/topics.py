@@ -91,6 +91,8 @@ def wanted_of(text):
         raise ValueError(f"no such member: {', '.join(unknown)}")
     if not (functions := given.pop("functions", {})) and not given:
         raise ValueError("nothing is wanted")
+    if not isinstance(functions, (list, dict)):  # a text would be a list of its letters
+        raise ValueError("functions is no list")
     if wrong := [name for name, value in given.items() if type(value) not in (int, float)]:  # True is an int too
         raise ValueError(f"{wrong[0]} is no number")
     numbered = functions.items() if isinstance(functions, dict) else enumerate(functions)

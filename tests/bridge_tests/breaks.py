@@ -350,6 +350,7 @@ BREAKS = [  # the file, whose cases, what is wrong, the text, what stands in its
      "    now = mirror.rows[bus, \"GL\", address, \"does\"]\n    functions"),
     ("topics", "mqtt", "members that there are not are left out",
      "    if unknown := given.keys()", "    if None and given.keys()"),
+    ("topics", "mqtt", "a text is a list of functions", "(list, dict)):", "(list, dict, str)):"),
     ("topics", "mqtt", "true is a speed of 1", "not in (int, float)]", "not in (int, float, bool)]"),
     ("topics", "mqtt", "a topic of a session is a command", "|(GL|GA)/{NUMBER}/is", "|(GL|GA|SESSION)/{NUMBER}/is"),
     ("mqtt", "mqtt", "what is below all topics is not heard", "range(1, 7)]", "range(1, 5)]"),

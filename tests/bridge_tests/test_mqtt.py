@@ -158,7 +158,8 @@ class Payloads(unittest.TestCase):
             self.assertEqual(wanted_of(text), wanted)
         for text in ("", "[", "[]", "{}", "null", "x", '{"v": Infinity}', '{"speed": 5}', '{"functions": []}',
                      '{"functions": {"x": 1}}', '{"functions": 5}', '{"v": "9\nSET 1 POWER OFF"}', "[" * 5000,
-                     "true", "false", '"12"', '{"v": true}', '{"v": false}', '{"mode": true}', '{"v": "12"}'):
+                     "true", "false", '"12"', '{"v": true}', '{"v": false}', '{"mode": true}', '{"v": "12"}',
+                     '{"functions": "01"}', '{"v": 1, "functions": ""}', '{"v": 1, "functions": null}'):
             with self.assertRaises(Exception, msg=text):
                 wanted_of(text)
         places = ["1/GL/3", "1/GL/3/is", "1/GA/3/1", "1/FB/3", "1_GL_3", "stop", "x"]
@@ -303,6 +304,7 @@ class Mqtt(MqttCase):
                  ("1/GL/3", "null"), ("1/GL/3", '{"v": Infinity}'), ("1/GL/3", "[" * 900), ("1/GL/3", "x" * 10_000_000),
                  ("0/SESSION/1/is", ""), ("1/GL/3", b"\xff\xfe"), ("x", "1"), ("1/GL/3", '{"functions": 5}'),
                  ("1/GL/3", "-1"), ("1/GL/3", "true"), ("1/GL/3", '{"v": true}'), ("1/GL/3", '"12"'),
+                 ("1/GL/3", '{"functions": "01"}'),
                  ("1/GL/3 1 9 28", "1"), ("1/GL/3", '{"v": "9\\nSET 1 POWER OFF"}')]
         for topic, payload in wrong:
             self.client.say(f"srcp/{topic}/set", payload)

@@ -172,6 +172,7 @@ class Stopping(MqttCase):
         wrong = [("1/GL/3", '{"functions": {"2": 1}}', "it has no function 2"), ("1/GL/4", "5", "414"),
                  ("1/GL/3", '{"functions": [1, 0, 1]}', "it has no function 2"), ("1/GL/4", '{"mode": 2}', "414"),
                  ("1/GL/3", '{"speed": 5}', "no such member: speed"), ("1/GL/3", "{}", "nothing is wanted"),
+                 ("1/GL/3", '{"functions": "01"}', "functions is no list"),
                  ("1/GL/99", "5", "416"), ("1/GA/9/1", "1", "416"), ("9/POWER", "ON", "412"),
                  *((place, "1", "no such topic") for place in ("x", "1/GL/3/functions/1", "1/GL/x"))]
         for place, text, reply in wrong:
