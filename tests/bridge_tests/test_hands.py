@@ -68,6 +68,9 @@ class HandsBeforeRows(unittest.IsolatedAsyncioTestCase):
         before()
         with mock.patch("srcp_bridges.stations.registry.say"):
             await self.hands.orders.carry_out()
+        return self.waits()
+
+    def waits(self):
         return next((waiting["cab", 77] for waiting in self.bus.track.waiting if ("cab", 77) in waiting), None)
 
     async def test_what_is_made_is_set_as_a_hand_drives_it(self):
@@ -103,6 +106,25 @@ class HandsBeforeRows(unittest.IsolatedAsyncioTestCase):
         rows = "101 INFO 1 GL 77 N 1 126 5", "100 INFO 1 GL 77 1 0 0 0 0 0 0 0"
         self.assertEqual(await self.told(lambda: self.tells(*rows)), (0, 1))
         self.assertEqual(self.asked, [self.GET])
+
+    async def test_one_that_another_makes_and_locks_behind_the_get_stands(self):
+        """Its row is told before the INIT is refused, or after. It is no fault: STOP ALL reaches it."""
+        from srcp_bridges.rows import Refused
+        rows = "101 INFO 1 GL 77 N 1 126 5", "100 INFO 1 GL 77 1 0 0 0 0 0 0 0"
+
+        async def locked(command):
+            if command == self.GET:
+                return await self.answers(command)
+            self.tells(*before)
+            raise Refused("414 ERROR device locked")
+
+        for before, after in (rows, ()), ((), rows):
+            await self.asyncSetUp()
+            self.bus.mirror.ask = locked
+            with mock.patch("srcp_bridges.stations.hands.say") as said:
+                await self.told()
+            self.tells(*after)
+            self.assertEqual((self.waits(), said.called), ((0, 1), False))
 
     async def test_an_echo_and_a_stand_make_nothing(self):
         """Of one that was taken out while its echo was on the way, and of one that a hand has stand."""

@@ -83,7 +83,7 @@ class Hands:
         except ConnectionError:
             pass  # it stands when the server is back
         except Refused as reply:
-            if address not in self.refused:
+            if address not in self.refused and not str(reply).startswith("414"):  # another made it, and has it locked
                 say(f"STOP ALL does not reach locomotive {address}, which a hand throttle drives: "
                     f"the server says {reply}")
             self.refused.add(address)
