@@ -13,6 +13,7 @@ import json
 import os
 import re
 import resource
+import signal
 import subprocess
 import sys
 import tempfile
@@ -349,6 +350,8 @@ def main():
     program, names = sys.argv[1], sys.argv[2:]
     if not os.access(program, os.X_OK):
         sys.exit(f"{program} is not built: ./run --build builds it")
+    if signal.getsignal(signal.SIGHUP) is signal.SIG_IGN:  # by nohup: what is started here would ignore it too
+        signal.signal(signal.SIGHUP, lambda *_: None)
     cases = cases_by_name()
     if unknown := [name for name in names if name not in cases]:
         sys.exit(f"no such case: {' '.join(unknown)}")
