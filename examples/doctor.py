@@ -111,11 +111,13 @@ class Chain:
         if why := station["left_out"].get(f"{self.bus} GL {self.address}"):
             raise Broken(f"the station does not drive it: {why}",
                          "make it with another protocol, or remove one that you do not need")
-        if not (told := station["told"].get(str(self.address))):
+        if (told := station["told"].get(str(self.address))) is None:
             raise Broken("the station was told nothing of it", "drive it once more, and read what its driver says")
-        speed, way, moment = told
-        return (f"{speed} of {TOP}, {'forward' if way else 'backward'}, {time.monotonic() - moment:.0f} s ago."
-                " If it stands still, look at rails, decoder and address")
+        how = "nothing, since a hand throttle at the station drives it"
+        if told:
+            speed, way, moment = told
+            how = f"{speed} of {TOP}, {'forward' if way else 'backward'}, {time.monotonic() - moment:.0f} s ago"
+        return f"{how}. If it stands still, look at rails, decoder and address"
 
 
 LINKS = [Chain.server, Chain.layout, Chain.locomotive, Chain.power, Chain.lock, Chain.command, Chain.driver,

@@ -63,10 +63,11 @@ def doctor_names_the_first_broken_link(program):
         look(port, **station(here=False))
         look(port, **station(left_out={"1 GL 3": "protocol M"}))
         look(port, **station(told={}))
+        look(port, **station(told={"3": []}))
         look(port, **station())
     want = [(1, "1 server", True), (1, "1 server", True), (2, "2 layout", True), (3, "3 locomotive", True),
             (4, "4 power", True), (6, "6 command", True), (7, "7 driver", True), (8, "8 station", True),
-            (9, "9 told", True), (9, "9 told", True), (0, "9 told", False)]
+            (9, "9 told", True), (9, "9 told", True), (0, "9 told", False), (0, "9 told", False)]
     return None if found == want else f"got {found}, want {want}"
 
 

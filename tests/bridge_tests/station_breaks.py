@@ -143,6 +143,8 @@ STATION_BREAKS = [  # the file, whose cases, what is wrong, the text, what stand
      "            if self.reports.is_news(part, value, (0, FORWARD)) or True:"),
     ("hands", "dcc-ex", "one of another protocol is made anew",
      "if await self.mirror.has((self.bus.number, \"GL\", address, False)):", "if False:"),
+    ("hands", "doctor", "what a hand drives counts as told nothing, or as told long ago",
+     "        self.driven[address] = ()\n", ""),
     ("hands", "dcc-ex", "a refusal to make one is told of with each report",
      "if address not in self.refused and", "if"),
     ("hands", "hands", "one that another made meanwhile, and has locked, is told of as a fault",

@@ -35,6 +35,16 @@ class Doctor(DccExCase):
         until(lambda: "4 power: it is off: no station" in self.asks("doctor.py", "3")[0], "no station")
         self.station = type(self.station)(self.link)
 
+    def test_a_hand_at_the_station_drives(self):
+        """One that the driver made, and one that it drove before. Both go back to a throttle."""
+        for address in ("77", "3"):
+            self.station.hand(int(address), speed=40)
+            by_hand = "9 told: nothing, since a hand throttle at the station drives it. If it stands still"
+            until(lambda: by_hand in self.asks("doctor.py", address)[0], "a hand drives it")
+            self.assertEqual(self.asks("doctor.py", address)[1], 0)
+            self.throttle.order(f"SET 1 GL {address} 1 20 126")
+            until(lambda: "9 told: 20 of 126, forward" in self.asks("doctor.py", address)[0], "a throttle drives it")
+
     def test_the_sessions_of_the_driver_have_its_name(self):
         sessions = self.asks("status.py")[0].splitlines()[0]
         self.assertEqual(sessions.count("(dcc_ex.py)"), 2)

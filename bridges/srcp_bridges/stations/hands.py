@@ -17,7 +17,8 @@ PROGRAMS = "programming"
 class Hands:
     """An echo of what the station was told changes nothing; what else it reports is ordered at the registry.
 
-    `refused` has the locomotives that a hand drives and that the server does not make.
+    `refused` has the locomotives that a hand drives and that the server does not make. `driven` has the speed, the
+    direction and the time of what the station was told last of each locomotive; nothing, if a hand drives it since.
     """
 
     def __init__(self, bus):
@@ -27,6 +28,7 @@ class Hands:
         self.mirror = bus.mirror
         self.reports = Reports()
         self.refused: set[int] = set()
+        self.driven: dict[int, tuple] = {}
         self.track.drive_on = self.locomotive
 
     def is_news(self, part, value, usual=None):
@@ -92,6 +94,7 @@ class Hands:
     def drives(self, address, speed, way, drive, seen):
         """A hand throttle drives a locomotive. If its row may not be changed, or was stopped meanwhile, the station is
         told the row again, but a stop stays."""
+        self.driven[address] = ()
         part, command = ("cab", address), f"SET {self.bus.number} GL {address} {way}"
         stays = partial(self.bus.holds.keep, part)
         if speed > 0:

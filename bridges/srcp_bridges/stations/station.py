@@ -53,7 +53,6 @@ class Station:
         self.questions = 0
         self.began = 0.0
         self.line: Line | Datagrams
-        self.driven: dict[int, tuple[int, int, float]] = {}  # speed, direction and time of what was told last
         self.programming = Programming(self, self.PROGRAMS_BESIDE, self.REPEATS)
 
     async def connect(self) -> Line | Datagrams:
@@ -140,8 +139,7 @@ class Station:
         self.track.tell(*found)
         (kind, *numbers), value = found
         if kind == "cab":
-            speed, way = value
-            self.driven[numbers[0]] = speed, way, time.monotonic()  # which is that of all programs of this machine
+            self.hands.driven[numbers[0]] = *value, time.monotonic()  # which is that of all programs of this machine
         return True
 
     def telling(self, part, value):
@@ -224,7 +222,7 @@ class Station:
         """Tells doctor.py how the station is, what is not driven, and what was told last of each locomotive."""
         while True:
             SELF.tell_station(bus=self.bus.number, name=self.name, here=self.ready.is_set(), slots=self.track.slots,
-                              taken=len(self.track.known), left_out=self.bus.left_out(), told=dict(self.driven),
+                              taken=len(self.track.known), left_out=self.bus.left_out(), told=dict(self.hands.driven),
                               door=self.programming.path)
             await asyncio.sleep(MOMENT)
 
