@@ -15,8 +15,8 @@ import threading
 import time
 import tty
 
-if sys.version_info < (3, 11):
-    sys.exit("-- this takes Python 3.11 or later")
+from srcp_bridges.program import tell
+
 NUMBER = r"(0|[1-9]\d*)"
 SYNTAX = {"power": r"([01])", "throttle": rf"t {NUMBER} (-1|{NUMBER}) ([01])", "accessory": rf"a {NUMBER} ([01])",
           "function": rf"F {NUMBER} {NUMBER} ([01])", "forget": rf"- {NUMBER}", "sensors": "Q", "status": "s",
@@ -210,11 +210,19 @@ class Station:
                 self.report_cab(cab)
 
 
+def show(text):
+    """Prints what changes the track. Once nobody reads that, this program ends as by SIGTERM."""
+    try:
+        tell(text)
+    except SystemExit:
+        os.kill(os.getpid(), signal.SIGTERM)  # this thread alone would end
+
+
 def main():
     words = argparse.ArgumentParser(description=__doc__, formatter_class=argparse.RawDescriptionHelpFormatter)
     words.add_argument("link", metavar="LINK")
     signal.signal(signal.SIGTERM, signal.default_int_handler)
-    station = Station(words.parse_args().link, lambda text: print(text, flush=True))
+    station = Station(words.parse_args().link, show)
     try:
         for line in sys.stdin:
             if line.strip().isdecimal():

@@ -13,10 +13,8 @@ import sys
 import threading
 import time
 
-from simulated_station import DECODER
+from simulated_station import DECODER, show
 
-if sys.version_info < (3, 11):
-    sys.exit("-- this takes Python 3.11 or later")
 STEPS = {0: (14, 0), 2: (28, 2), 3: (126, 4)}  # by the format of a command: how many, and the format of its reports
 STOPS_ALL = 1
 NO_POWER = 2
@@ -309,7 +307,7 @@ def main():
     words = argparse.ArgumentParser(description=__doc__, formatter_class=argparse.RawDescriptionHelpFormatter)
     words.add_argument("port", metavar="PORT", type=int)
     signal.signal(signal.SIGTERM, signal.default_int_handler)
-    station = Z21(words.parse_args().port, lambda text: print(text, flush=True))
+    station = Z21(words.parse_args().port, show)
     try:
         for line in sys.stdin:
             if line.strip().isdecimal():

@@ -56,7 +56,7 @@ from .test_broker import MqttBesideOthers, MqttWithLimits, MqttWithTls  # noqa: 
 from .test_chromium import WebInChromium, WebInGerman  # noqa: E402
 from .test_chromium_silence import WebWithBeats, WebWithSilence  # noqa: E402
 from .test_chromium_touch import WebByTouch  # noqa: E402
-from .test_dcc_ex import DccEx, DccExWithHands, DccExWithLosses  # noqa: E402
+from .test_dcc_ex import DccEx, DccExWithHands, DccExWithLosses, Simulated  # noqa: E402
 from .test_entrance import Entering, WebBesideManyConnections, WebInTheNetwork, WebWithAWord  # noqa: E402
 from .test_doctor import Doctor  # noqa: E402
 from .test_guard import Guard  # noqa: E402
@@ -87,4 +87,4 @@ BRIDGE_CASES = cases_of(Readme, Following, MqttWithAWrongBroker, Stopping, Mqtt,
                         SrcpdWithADriver, DccEx, DccExWithLosses, DccExWithHands, HandsBeforeRows, HandsBeforeStops,
                         Z21, Z21WithLosses, Z21WithHands, DccExWithPrograms, Z21WithPrograms, Programming, Doctor,
                         Guard, Keep, Box, Log, Parsing, Plans, PlanInChromium, LargePlanInChromium, PlanInGerman,
-                        WebBesideADriver)
+                        WebBesideADriver, Simulated)

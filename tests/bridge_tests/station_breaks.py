@@ -164,6 +164,8 @@ STATION_BREAKS = [  # the file, whose cases, what is wrong, the text, what stand
     ("programming", "dcc-ex", "the door stays", "                os.unlink(self.path)", "                pass"),
     ("datasets", "z21", "CVs above 256 are others", "xbus(0x23, 0x11, *divmod(cv - 1, 256))",
      "xbus(0x23, 0x11, 0, (cv - 1) % 256)"),
+    ("simulated_station", "simulated", "a simulated station that nobody reads goes on",
+     "        os.kill(os.getpid(), signal.SIGTERM)  #", "        pass  #"),
     ("reports", "dcc-ex", "an echo is a hand",
      "        if value in [told for _, told in sent]:", "        if False:"),
     ("reports", "dcc-ex", "the echo of a stop of all is a hand",

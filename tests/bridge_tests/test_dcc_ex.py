@@ -2,12 +2,14 @@
 import os
 import re
 import signal
+import socket
 import subprocess
 import sys
 import threading
 import time
+import unittest
 
-from .common import PROGRAMS, WAIT, listener, new_folder, rows, until
+from .common import PROGRAMS, WAIT, free_port, listener, new_folder, rows, until
 from .stations import QUIET, STANDS, Drives, Hands, Losses, StationCase
 
 PATIENT = "--patience", WAIT, "--silence", WAIT  # a busy machine may take long to join again
@@ -298,3 +300,32 @@ class DccExWithHands(Hands, DccExCase):
         self.assertEqual(self.commands("t", begun), told)
         self.station.hand(3, speed=7)
         self.has("100 INFO 1 GL 3 1 7 126 1 0 1")
+
+
+class Simulated(unittest.TestCase):
+    """The simulated stations as programs."""
+    program = "simulated"
+
+    def starts(self, name, where):
+        """Starts one, and nobody reads what it prints."""
+        reading, writing = os.pipe()
+        os.close(reading)
+        with os.fdopen(writing) as output:
+            station = subprocess.Popen([sys.executable, PROGRAMS / name, str(where)], stdin=subprocess.PIPE,
+                                       stdout=output, stderr=subprocess.PIPE)
+        self.addCleanup(station.kill)
+        return station
+
+    def test_once_nobody_reads_them_they_end(self):
+        """As `head` wants it, without a word. The link of the one is gone."""
+        link, port = os.path.join(new_folder(), "ttyACM0"), free_port()
+        station = self.starts("simulated_station.py", link)
+        until(lambda: os.path.exists(link), "its line")
+        with open(link, "wb") as line:
+            line.write(b"<1>")
+        self.assertEqual((station.communicate(timeout=WAIT)[1], station.returncode), (b"", 0))
+        self.assertFalse(os.path.lexists(link))
+        station, off = self.starts("simulated_z21.py", port), bytes.fromhex("070040002180a1")
+        with socket.socket(socket.AF_INET, socket.SOCK_DGRAM) as line:
+            until(lambda: line.sendto(off, ("127.0.0.1", port)) and station.poll() is not None, "it ends")
+        self.assertEqual((station.communicate()[1], station.returncode), (b"", 0))
