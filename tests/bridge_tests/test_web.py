@@ -441,6 +441,8 @@ class WebWithSilentPages(WebCase):
         self.assertEqual(page.post("SET 1 GL 3 1 9 28"), "404")
         self.assertNotIn("END", other.events)
         self.has("100 INFO 1 GL 4 1 9 28")
+        self.assertEqual(page.post("1 4", "/stop"), "200 OK")
+        self.has("100 INFO 1 GL 4 1 0 28")
 
     def test_what_was_asked_while_it_slept(self):
         """If it slept for as long as makes a page silent, that was asked of it long ago; but a stop is a stop."""
