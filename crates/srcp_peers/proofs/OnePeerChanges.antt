@@ -6,10 +6,12 @@ use Rattle.std.proofs.lemmas.Bool.{cases_eq}
 use Rattle.std.proofs.lemmas.List.{get_or_default, length-set}
 use Rattle.srcp_peers.specs.declared.peer.Peer.{Peer}
 use Rattle.srcp_peers.specs.declared.system.Ready.{Ready}
-use Rattle.srcp_peers.specs.Steps.{Clocks, Step, Waits}
+use Rattle.srcp_peers.specs.Steps.{Clocks, SaysNothing, Step, Waits}
+use Rattle.srcp_peers.specs.Times.{KeepsTimes}
 use Rattle.srcp_peers.specs.Accounts.{Account, is_short_wait}
-use Rattle.srcp_peers.specs.Peers.{Agrees, IsKept, Spares, IsRead, after_wake, is_resting}
+use Rattle.srcp_peers.specs.Peers.{Agrees, CallsForOne, IsKept, Spares, IsRead, after_wake, is_resting}
 use Rattle.srcp_peers.specs.AllPeers.{AreApart, AreKept, AreThose, AreWithin, IsAbsent}
+use Rattle.srcp_peers.proofs.CallsAreOfTheDoor.{keeps_then, says_then}
 use Rattle.srcp_peers.proofs.PeersStayKept.{alien, all_number, kept_after, kept_waited, skips}
 use Rattle.srcp_peers.proofs.PeersLingerByAccount.{clocked_agrees}
 
@@ -154,3 +156,39 @@ set_read old new peers i p q within apart same others here below k d lt = ⊎_el
     subst (IsRead new) (sym (ap (λ (x : Peer). x.number) (get_or-set_other peers i k q d ne)))
     (subst (λ (a : Account). (a.watched && a.unread) ≡ false) (sym (others (get_or peers k d).number differ)) (below k d low)))
     (cases_eq k i)
+
+-- ---- calls of the system for one peer
+
+-- and more for it
+pub calls_then : {m n : ℕ} {p q r : Peer} {old mid new : List Step} → CallsForOne m p q old mid → CallsForOne n q r mid new
+    → CallsForOne (m + n) p r old new
+calls_then {m} {n} {p} {q} {r} {old} {mid} {new} first next = record {
+  kept = next.kept;
+  others = λ other differ. next.others other (λ e. differ (e ∙ first.number)) ∙ first.others other differ;
+  calls = says_then old mid new first.calls next.calls;
+  most = omega (arith, first.most, next.most);
+  times = keeps_then old mid new first.times next.times;
+  number = next.number ∙ first.number;
+}
+
+-- peers are gone through, by calls for one after the other
+pub record CallsForEach (first peers : List Peer) (old new : List Step) : Type 0 where
+  pub kept : AreKept new peers
+  pub apart : AreApart peers
+  pub those : AreThose first peers
+  pub others : (other : ℕ) → IsAbsent other first → Spares other old new
+  pub calls : SaysNothing old new
+  pub times : KeepsTimes old new
+
+pub calls_next : (first peers : List Peer) (i : ℕ) (p q : Peer) {count : ℕ} {old mid new : List Step} → i < length peers
+    → length peers ≡ length first → CallsForEach first peers old mid → CallsForOne count (get_or peers i p) q mid new
+    → CallsForEach first (set peers i q) old new
+calls_next first peers i p q {old} {mid} {new} within long was one = record {
+  kept = set_kept mid new peers i p q within was.apart was.kept one.kept one.others;
+  apart = set_apart peers i p q within one.number was.apart;
+  those = set_those first peers i p q within long one.number was.those;
+  others = λ other absent.
+      one.others other (absent_there other first peers i p within long was.those absent) ∙ was.others other absent;
+  calls = says_then old mid new was.calls one.calls;
+  times = keeps_then old mid new was.times one.times;
+}

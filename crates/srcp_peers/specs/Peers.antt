@@ -20,7 +20,8 @@ use Rattle.srcp_peers.specs.declared.stay.Stay.TheVariants as stay
 use Rattle.srcp_door.specs.Pacing.{line_after}
 use Rattle.srcp_peers.specs.declared.ending.Ending.TheVariants as ending
 use Rattle.srcp_door.specs.declared.pacing.LineBoundary.TheVariants as boundary
-use Rattle.srcp_peers.specs.Steps.{Step, Reads, Writes, failure_of}
+use Rattle.srcp_peers.specs.Steps.{GrowsBy, Step, Reads, SaysNothing, Writes, failure_of}
+use Rattle.srcp_peers.specs.Times.{KeepsTimes}
 use Rattle.srcp_peers.specs.Accounts.{Account, Lingering, Sent, Received, account, is_overdue}
 use Rattle.srcp_peers.specs.Limits.{flush_threshold, most_drained, most_outgoing, silence}
 
@@ -91,6 +92,16 @@ IsKept log p = Agrees (account p.number log) p
 -- the steps that came say nothing of this socket
 abbrev pub Spares : ℕ → (old new : List Step) → Type 0
 Spares socket old new = account socket new ≡ account socket old
+
+-- the steps that came are as many calls of the system at most, for one peer alone: it is what its account says, and has
+-- the number that it had; the other sockets are spared, the door answers nothing, and nothing is said of the time
+pub record CallsForOne (count : ℕ) (old new : Peer) (log later : List Step) : Type 0 where
+  pub kept : IsKept later new
+  pub others : (other : ℕ) → other ≢ old.number → Spares other log later
+  pub calls : SaysNothing log later
+  pub most : GrowsBy count log later
+  pub times : KeepsTimes log later
+  pub number : new.number ≡ old.number
 
 -- as many of the steps that came are such
 abbrev pub Makes : (is_such : Step → Bool) → ℕ → (old new : List Step) → Type 0

@@ -2,14 +2,11 @@
 //! is read until the input ends. To close a socket with unread input would reset the connection, and the peer would
 //! lose the bytes that it had not read.
 
-ghost use Rattle.std.specs.Prelude.{◌≡◌, ◌≢◌, ◌<◌, ℕ, [], true, false, IfSome, length, slice_index_or, filter, not};
-ghost use Rattle.std.specs.Prelude.{◌⊎◌};
-ghost use Rattle.std.specs.Prelude.{max, position};
+ghost use Rattle.std.specs.Prelude.{◌≡◌, ◌<◌, ℕ, [], true, false, IfSome, length, slice_index_or, filter, not};
+ghost use Rattle.std.specs.Prelude.{◌⊎◌, max, position};
 ghost use Rattle.srcp_peers.specs.declared.peer.Peer.{Peer};
-ghost use Rattle.srcp_peers.specs.Steps.{GrowsBy, SaysNothing};
-ghost use Rattle.srcp_peers.specs.Times.{KeepsTimes};
-ghost use Rattle.srcp_peers.specs.Peers.{IsKept, OffersDue, Spares, is_closable, is_gone, is_here, is_lost, is_shut};
-ghost use Rattle.srcp_peers.specs.Peers.{Asks, IsDrained, KeepsRest, Makes, calls_in, is_read_of, may_have};
+ghost use Rattle.srcp_peers.specs.Peers.{CallsForOne, IsKept, OffersDue, is_closable, is_gone, is_here, is_lost};
+ghost use Rattle.srcp_peers.specs.Peers.{Asks, IsDrained, KeepsRest, Makes, calls_in, is_read_of, is_shut, may_have};
 ghost use Rattle.srcp_peers.specs.Peers.{reads_each, stay_after};
 
 use crate::log::Logged;
@@ -41,13 +38,8 @@ impl Peer {
         reads: usize,
     )
         requires { IsKept system.old.log.steps self.old }
-        ensures kept { IsKept system.new.log.steps self.new }
-        ensures others { (other : ℕ) → other ≢ self.old.number
-            → Spares other system.old.log.steps system.new.log.steps }
-        ensures calls { SaysNothing system.old.log.steps system.new.log.steps }
-        ensures most { GrowsBy (calls_in reads self.old) system.old.log.steps system.new.log.steps }
-        ensures times { KeepsTimes system.old.log.steps system.new.log.steps }
-        ensures number { self.new.number ≡ self.old.number }
+        ensures alone { CallsForOne (calls_in reads self.old) self.old self.new
+            system.old.log.steps system.new.log.steps }
         ensures offered { OffersDue what self.old system.old.log.steps system.new.log.steps }
         ensures stay { self.new.stay ≡ stay_after self.old.stay self.new.outgoing self.new.output }
         ensures keeps { KeepsRest self.old self.new }
@@ -64,13 +56,7 @@ impl Peer {
     #[inline(never)]
     fn linger_step<S: System>(&mut self, system: &mut Logged<S>, reads: usize)
         requires { IsKept system.old.log.steps self.old }
-        ensures kept { IsKept system.new.log.steps self.new }
-        ensures others { (other : ℕ) → other ≢ self.old.number
-            → Spares other system.old.log.steps system.new.log.steps }
-        ensures calls { SaysNothing system.old.log.steps system.new.log.steps }
-        ensures most { GrowsBy (max 2 reads) system.old.log.steps system.new.log.steps }
-        ensures times { KeepsTimes system.old.log.steps system.new.log.steps }
-        ensures number { self.new.number ≡ self.old.number }
+        ensures alone { CallsForOne (max 2 reads) self.old self.new system.old.log.steps system.new.log.steps }
         ensures offered { is_here self.old.stay ≡ false
             → OffersDue Flush.All self.old system.old.log.steps system.new.log.steps }
         ensures stay { self.new.stay ≡ stay_after self.old.stay self.new.outgoing self.new.output }
@@ -88,13 +74,7 @@ impl Peer {
     fn drain_output<S: System>(&mut self, system: &mut Logged<S>, since: u64)
         requires kept { IsKept system.old.log.steps self.old }
         requires draining { self.old.stay ≡ Stay.Draining since }
-        ensures kept { IsKept system.new.log.steps self.new }
-        ensures others { (other : ℕ) → other ≢ self.old.number
-            → Spares other system.old.log.steps system.new.log.steps }
-        ensures calls { SaysNothing system.old.log.steps system.new.log.steps }
-        ensures most { GrowsBy 2 system.old.log.steps system.new.log.steps }
-        ensures times { KeepsTimes system.old.log.steps system.new.log.steps }
-        ensures number { self.new.number ≡ self.old.number }
+        ensures alone { CallsForOne 2 self.old self.new system.old.log.steps system.new.log.steps }
         ensures offered { OffersDue Flush.All self.old system.old.log.steps system.new.log.steps }
         ensures stay { self.new.stay ≡ stay_after self.old.stay self.new.outgoing self.new.output }
         ensures keeps { KeepsRest self.old self.new }
@@ -111,13 +91,7 @@ impl Peer {
         requires draining { self.old.stay ≡ Stay.Draining since }
         requires taken { self.old.outgoing ≡ [] }
         requires sound { is_lost self.old.output ≡ false }
-        ensures kept { IsKept system.new.log.steps self.new }
-        ensures others { (other : ℕ) → other ≢ self.old.number
-            → Spares other system.old.log.steps system.new.log.steps }
-        ensures calls { SaysNothing system.old.log.steps system.new.log.steps }
-        ensures most { GrowsBy 1 system.old.log.steps system.new.log.steps }
-        ensures times { KeepsTimes system.old.log.steps system.new.log.steps }
-        ensures number { self.new.number ≡ self.old.number }
+        ensures alone { CallsForOne 1 self.old self.new system.old.log.steps system.new.log.steps }
         ensures same { self.new ≡ record self.old { stay = Stay.Shut since } }
     {
         system.shutdown(self.number);
@@ -128,13 +102,7 @@ impl Peer {
     fn drain_input<S: System>(&mut self, system: &mut Logged<S>, reads: usize)
         requires kept { IsKept system.old.log.steps self.old }
         requires gone { is_here self.old.stay ≡ false }
-        ensures kept { IsKept system.new.log.steps self.new }
-        ensures others { (other : ℕ) → other ≢ self.old.number
-            → Spares other system.old.log.steps system.new.log.steps }
-        ensures calls { SaysNothing system.old.log.steps system.new.log.steps }
-        ensures most { GrowsBy reads system.old.log.steps system.new.log.steps }
-        ensures times { KeepsTimes system.old.log.steps system.new.log.steps }
-        ensures number { self.new.number ≡ self.old.number }
+        ensures alone { CallsForOne reads self.old self.new system.old.log.steps system.new.log.steps }
         ensures stay { self.new.stay ≡ self.old.stay }
         ensures keeps { KeepsRest self.old self.new }
         ensures drained { (may_have self.new.input ≡ false)
@@ -152,13 +120,7 @@ impl Peer {
     fn skip<S: System>(&mut self, system: &mut Logged<S>)
         requires kept { IsKept system.old.log.steps self.old }
         requires gone { is_here self.old.stay ≡ false }
-        ensures kept { IsKept system.new.log.steps self.new }
-        ensures others { (other : ℕ) → other ≢ self.old.number
-            → Spares other system.old.log.steps system.new.log.steps }
-        ensures calls { SaysNothing system.old.log.steps system.new.log.steps }
-        ensures most { GrowsBy 1 system.old.log.steps system.new.log.steps }
-        ensures times { KeepsTimes system.old.log.steps system.new.log.steps }
-        ensures number { self.new.number ≡ self.old.number }
+        ensures alone { CallsForOne 1 self.old self.new system.old.log.steps system.new.log.steps }
         ensures stay { self.new.stay ≡ self.old.stay }
         ensures keeps { KeepsRest self.old self.new }
         ensures asked { may_have self.old.input ≡ true

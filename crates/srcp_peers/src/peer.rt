@@ -2,10 +2,9 @@
 
 ghost use Rattle.std.specs.Prelude.{◌≡◌, ◌≢◌, ◌<◌, ◌≤◌, ◌||◌, true, false, not, cond, ℕ, [], Ok, length, take, nat_lt};
 ghost use Rattle.std.specs.Prelude.{◌∷◌, ◌++◌};
-ghost use Rattle.srcp_peers.specs.Steps.{GrowsBy, SaysNothing, Answers};
+ghost use Rattle.srcp_peers.specs.Steps.{Answers};
 ghost use Rattle.srcp_door.specs.Calls.{WriteCall};
-ghost use Rattle.srcp_peers.specs.Times.{KeepsTimes};
-ghost use Rattle.srcp_peers.specs.Peers.{Asks, IsKept, Offers, Spares, IsRead, after_wake, has_rest};
+ghost use Rattle.srcp_peers.specs.Peers.{Asks, CallsForOne, IsKept, Offers, Spares, IsRead, after_wake, has_rest};
 ghost use Rattle.srcp_peers.specs.Peers.{holds_input, is_busy, is_due, is_over, is_resting, is_waiting, is_wanting};
 ghost use Rattle.srcp_peers.specs.Peers.{goes_first, is_lost, is_silent, may_have};
 ghost use Rattle.srcp_peers.specs.Peers.{enqueued, lines_left_after, queued_more, tries_again, woken_output};
@@ -137,13 +136,7 @@ impl Peer {
     #[inline(always)]
     pub(crate) fn flush<S: System>(&mut self, system: &mut Logged<S>, what: Flush)
         requires { IsKept system.old.log.steps self.old }
-        ensures kept { IsKept system.new.log.steps self.new }
-        ensures others { (other : ℕ) → other ≢ self.old.number
-            → Spares other system.old.log.steps system.new.log.steps }
-        ensures calls { SaysNothing system.old.log.steps system.new.log.steps }
-        ensures most { GrowsBy 1 system.old.log.steps system.new.log.steps }
-        ensures times { KeepsTimes system.old.log.steps system.new.log.steps }
-        ensures number { self.new.number ≡ self.old.number }
+        ensures alone { CallsForOne 1 self.old self.new system.old.log.steps system.new.log.steps }
         ensures same { self.new ≡ record self.old {
           outgoing = self.new.outgoing;
           output = self.new.output;
@@ -191,13 +184,7 @@ impl Peer {
         lines_left: u32,
     )
         requires { IsKept system.old.log.steps self.old }
-        ensures kept { IsKept system.new.log.steps self.new }
-        ensures others { (other : ℕ) → other ≢ self.old.number
-            → Spares other system.old.log.steps system.new.log.steps }
-        ensures calls { SaysNothing system.old.log.steps system.new.log.steps }
-        ensures most { GrowsBy 1 system.old.log.steps system.new.log.steps }
-        ensures times { KeepsTimes system.old.log.steps system.new.log.steps }
-        ensures number { self.new.number ≡ self.old.number }
+        ensures alone { CallsForOne 1 self.old self.new system.old.log.steps system.new.log.steps }
         ensures stay { self.new.stay ≡ self.old.stay }
         ensures asked { may_have self.old.input ≡ true → length self.old.incoming < MOST_IN_PIECE
             → Asks self.old self.new system.old.log.steps system.new.log.steps }
@@ -235,13 +222,7 @@ impl Peer {
     #[inline(always)]
     pub(crate) fn fill<S: System>(&mut self, system: &mut Logged<S>)
         requires { IsKept system.old.log.steps self.old }
-        ensures kept { IsKept system.new.log.steps self.new }
-        ensures others { (other : ℕ) → other ≢ self.old.number
-            → Spares other system.old.log.steps system.new.log.steps }
-        ensures calls { SaysNothing system.old.log.steps system.new.log.steps }
-        ensures most { GrowsBy 1 system.old.log.steps system.new.log.steps }
-        ensures times { KeepsTimes system.old.log.steps system.new.log.steps }
-        ensures number { self.new.number ≡ self.old.number }
+        ensures alone { CallsForOne 1 self.old self.new system.old.log.steps system.new.log.steps }
         ensures asked { may_have self.old.input ≡ true → length self.old.incoming < MOST_IN_PIECE
             → Asks self.old self.new system.old.log.steps system.new.log.steps }
         ensures read { IsRead system.new.log.steps self.old.number }

@@ -1,21 +1,15 @@
 use Rattle.std.specs.Prelude.{◌≡◌, ℕ, ◌<◌, ◌≤◌, slice_index_or}
 use Rattle.srcp_peers.specs.declared.peer.Peer.{Peer}
-use Rattle.srcp_peers.specs.Steps.{GrowsBy, SaysNothing}
-use Rattle.srcp_peers.specs.Times.{KeepsTimes}
+use Rattle.srcp_peers.specs.Steps.{GrowsBy}
 use Rattle.srcp_peers.specs.Ends.{begun}
-use Rattle.srcp_peers.specs.Peers.{IsShared, Spares, IsRead, is_over}
-use Rattle.srcp_peers.specs.AllPeers.{AreApart, AreKept, AreThose, IsAbsent}
+use Rattle.srcp_peers.specs.Peers.{IsShared, IsRead, is_over}
+use Rattle.srcp_peers.proofs.OnePeerChanges.{CallsForEach}
 use Rattle.srcp_peers.proofs.peers.begin_visits.Given as goal
 
 abbrev pub invariant-loop-peer : goal.invariant-loop-peer
 invariant-loop-peer g l = record {
-  kept : AreKept l.system.log.steps l.peers;
-  apart : AreApart l.peers;
-  those : AreThose l.fn.peers l.peers;
-  others : (other : ℕ) → IsAbsent other l.fn.peers → Spares other l.fn.system.log.steps l.system.log.steps;
-  calls : SaysNothing l.fn.system.log.steps l.system.log.steps;
+  each : CallsForEach l.fn.peers l.peers l.fn.system.log.steps l.system.log.steps;
   most : GrowsBy l.peer-index l.fn.system.log.steps l.system.log.steps;
-  times : KeepsTimes l.fn.system.log.steps l.system.log.steps;
   read : (k : ℕ) (d : Peer) → k < l.peer-index → IsRead l.system.log.steps (slice_index_or l.peers k d).number;
   shared : (k : ℕ) (d : Peer) → k < l.peer-index
       → IsShared l.anew l.clock (slice_index_or l.fn.peers k d) (slice_index_or l.peers k d);

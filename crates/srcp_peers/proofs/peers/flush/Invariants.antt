@@ -1,21 +1,15 @@
 use Rattle.std.specs.Prelude.{◌≡◌, ℕ, ◌<◌, ◌≤◌, slice_index_or, take}
 use Rattle.std.specs.List.{sum_by}
 use Rattle.srcp_peers.specs.declared.peer.Peer.{Peer}
-use Rattle.srcp_peers.specs.Steps.{GrowsBy, SaysNothing}
-use Rattle.srcp_peers.specs.Times.{KeepsTimes}
-use Rattle.srcp_peers.specs.Peers.{KeepsRest, OffersDue, Spares, calls_in, stay_after}
-use Rattle.srcp_peers.specs.AllPeers.{AreApart, AreKept, AreThose, IsAbsent}
+use Rattle.srcp_peers.specs.Steps.{GrowsBy}
+use Rattle.srcp_peers.specs.Peers.{KeepsRest, OffersDue, calls_in, stay_after}
+use Rattle.srcp_peers.proofs.OnePeerChanges.{CallsForEach}
 use Rattle.srcp_peers.proofs.peers.flush.Given as goal
 
 abbrev pub invariant-loop-peer : goal.invariant-loop-peer
 invariant-loop-peer g l = record {
-  kept : AreKept l.system.log.steps l.peers;
-  apart : AreApart l.peers;
-  those : AreThose l.fn.peers l.peers;
-  others : (other : ℕ) → IsAbsent other l.fn.peers → Spares other l.fn.system.log.steps l.system.log.steps;
-  calls : SaysNothing l.fn.system.log.steps l.system.log.steps;
+  each : CallsForEach l.fn.peers l.peers l.fn.system.log.steps l.system.log.steps;
   most : GrowsBy (sum_by (calls_in l.reads) (take l.peer-index l.fn.peers)) l.fn.system.log.steps l.system.log.steps;
-  times : KeepsTimes l.fn.system.log.steps l.system.log.steps;
   offered : (k : ℕ) (d : Peer) → k < l.peer-index
       → OffersDue l.fn.what (slice_index_or l.fn.peers k d) l.fn.system.log.steps l.system.log.steps;
   shut : (k : ℕ) (d : Peer) → k < l.peer-index → (let p = slice_index_or l.peers k d in

@@ -1,6 +1,6 @@
-use Rattle.std.proofs.Common.{◌∙◌, [], arith, ap, sym, true≢false}
+use Rattle.std.proofs.Common.{◌∙◌, [], ap, sym, true≢false}
 use Rattle.srcp_peers.specs.Peers.{is_here}
-use Rattle.srcp_peers.proofs.CallsAreOfTheDoor.{says_then}
+use Rattle.srcp_peers.proofs.OnePeerChanges.{calls_then}
 use Rattle.srcp_peers.proofs.StepsAreCounted.{asked_more}
 use Rattle.srcp_peers.proofs.peer.Peer.drain_input.Goals as goal
 
@@ -12,15 +12,10 @@ loop-preserved g c =
     let was = c.loop.invariant in
     let each = c.skip.ensures in
     record {
-      kept = each.kept;
+      alone = calls_then was.alone each.alone;
       gone = ap is_here each.stay ∙ was.gone;
-      others = λ other differ. each.others other (λ e. differ (e ∙ was.number)) ∙ was.others other differ;
-      calls = says_then first old new was.calls each.calls;
-      most = omega (arith, was.most, each.most);
-      times = λ wall start. each.times wall start ∙ was.times wall start;
-      number = each.number ∙ was.number;
-      made = rw (← was.number) (asked_more (record c.loop.self { incoming = [] }) c.skip.new.self c.loop.counter first old new
-          (rw was.number was.made) (each.asked (sym c.is_ready.ensures ∙ c.if-not-is_ready.false)));
+      made = rw (← was.alone.number) (asked_more (record c.loop.self { incoming = [] }) c.skip.new.self c.loop.counter first old new
+          (rw was.alone.number was.made) (each.asked (sym c.is_ready.ensures ∙ c.if-not-is_ready.false)));
       stay = each.stay ∙ was.stay;
       keeps = (
         (each.keeps.0.0 ∙ was.keeps.0.0, each.keeps.0.1 ∙ was.keeps.0.1),
