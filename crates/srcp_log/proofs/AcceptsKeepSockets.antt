@@ -15,7 +15,7 @@ use Rattle.srcp_peers.specs.declared.stay.Stay.TheVariants as stay
 use Rattle.srcp_peers.specs.declared.turn.Listening.{Listening}
 use Rattle.srcp_peers.specs.declared.turn.Listening.TheVariants as listening
 use Rattle.srcp_peers.specs.Steps.{Accepts, Step, failure_of}
-use Rattle.srcp_peers.specs.Accounts.{Account, accepted, account, account_step, heard, heard_refusal}
+use Rattle.srcp_peers.specs.Accounts.{Account, accepted, account, account_step, heard, heard_failure}
 use Rattle.srcp_peers.specs.Peers.{Agrees, IsKept, Spares}
 use Rattle.srcp_door.specs.Pacing.{line_after}
 use Rattle.srcp_peers.specs.declared.ending.Ending.TheVariants as ending
@@ -170,7 +170,7 @@ stands_later log peers l last loud stands = record {
 
 -- an accept that failed
 refused_hears : (a : Account) (l : Listening) (said : IoFailure) → is_quiet l ≡ false → Hears a l
-    → Hears (record a { received = heard_refusal a.received said }) (listening_after_failure said)
+    → Hears (record a { received = heard_failure a.received said }) (listening_after_failure said)
 refused_hears a l WouldBlock loud h = record {
   fresh = record { written = h.fresh.written; took = h.fresh.took; gave = h.fresh.gave; handed = h.fresh.handed };
   lost = h.lost;
@@ -182,7 +182,7 @@ refused_hears a l WouldBlock loud h = record {
 refused_hears a l Interrupted loud h = hears_loud a l listening.Ready loud refl h
 refused_hears a l Fatal loud h = hears_loud a l listening.BackingOff loud refl h
 
-refused_sound : (a : Account) (said : IoFailure) → Sound a → Sound (record a { received = heard_refusal a.received said })
+refused_sound : (a : Account) (said : IoFailure) → Sound a → Sound (record a { received = heard_failure a.received said })
 refused_sound a WouldBlock h = record {
   took = h.took;
   handed = h.handed;
@@ -194,12 +194,12 @@ refused_sound a WouldBlock h = record {
 refused_sound a Interrupted h = h
 refused_sound a Fatal h = h
 
-refused_closed : (a : Account) (said : IoFailure) → Closed a → Closed (record a { received = heard_refusal a.received said })
+refused_closed : (a : Account) (said : IoFailure) → Closed a → Closed (record a { received = heard_failure a.received said })
 refused_closed a WouldBlock h = record { watched = h.watched; kept = h.kept }
 refused_closed a Interrupted h = h
 refused_closed a Fatal h = h
 
-refused_fresh : (a : Account) (said : IoFailure) → Fresh a → Fresh (record a { received = heard_refusal a.received said })
+refused_fresh : (a : Account) (said : IoFailure) → Fresh a → Fresh (record a { received = heard_failure a.received said })
 refused_fresh a WouldBlock h = record { written = h.written; took = h.took; gave = h.gave; handed = h.handed }
 refused_fresh a Interrupted h = h
 refused_fresh a Fatal h = h
@@ -239,7 +239,7 @@ stands_refused old new peers l last number fault loud tells stands = record {
       (refused_hears (account 0 old) l (failure_of fault) loud stands.heard);
 }
   where
-    more : account 0 new ≡ record (account 0 old) { received = heard_refusal (account 0 old).received (failure_of fault) }
+    more : account 0 new ≡ record (account 0 old) { received = heard_failure (account 0 old).received (failure_of fault) }
     more = ap (account 0) tells ∙ account_more 0 old (Accepts number (Err fault))
 
 -- a new peer, by the names that the function gives

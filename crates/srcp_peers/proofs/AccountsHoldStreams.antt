@@ -9,7 +9,7 @@ use Rattle.srcp_peers.specs.declared.system.IoFailure.{IoFailure}
 use Rattle.srcp_peers.specs.declared.system.IoFailure.TheVariants.{WouldBlock, Interrupted, Fatal}
 use Rattle.srcp_door.specs.Calls.{Call, ExpectCall, NowCall, AcceptCall, ReadCall, WriteCall, CloseCall}
 use Rattle.srcp_peers.specs.Steps.{Accepts, Clocks, Closes, Reads, Shuts, Step, Answers, Waits, Writes, calls, failure_of}
-use Rattle.srcp_peers.specs.Accounts.{Account, accepted, account, account_step, closed, heard, heard_refusal}
+use Rattle.srcp_peers.specs.Accounts.{Account, accepted, account, account_step, closed, heard, heard_failure}
 use Rattle.srcp_peers.specs.Accounts.{failed_read, failed_write, shut_down, untouched, waited, woken, woken_came, woken_sent, wrote}
 use Rattle.srcp_peers.specs.Accounts.{read_of}
 use Rattle.srcp_peers.specs.Streams.{gave, gave_in, handed, handed_in, taken, taken_in, took, took_in}
@@ -66,7 +66,7 @@ woken_lists socket a (one ∷ more) = woken_lists socket (woken socket a one) mo
       received = woken_came a.received one.readable (one.closed || one.urgent);
     }) a refl
 
-heard_lists : (a : Account) (said : IoFailure) → lists (record a { received = heard_refusal a.received said }) ≡ lists a
+heard_lists : (a : Account) (said : IoFailure) → lists (record a { received = heard_failure a.received said }) ≡ lists a
 heard_lists a WouldBlock = refl
 heard_lists a Interrupted = refl
 heard_lists a Fatal = refl

@@ -15,7 +15,7 @@ use Rattle.srcp_peers.specs.Limits.{linger, most_outgoing, retry_delay}
 pub record Sent : Type 0 where
   pub written : List ℕ  -- what the door said it took for it
   pub took : List ℕ  -- what the socket took
-  pub full : Bool  -- the last write was cut or refused, and since then it was not found ready for more
+  pub full : Bool  -- the last write was cut or took nothing, and since then it was not found ready for more
   pub lost : Bool  -- a write found that it takes no more
   pub cut : Bool  -- the door took less than it was last handed for it: the core has more
 
@@ -79,7 +79,7 @@ has_nothing received owed = not (is_held received) && ((received.quiet && (not r
     || (received.ended && owed))
 
 -- nothing happens to it unless its socket is found ready: all that was taken for it was taken by the socket, or that
--- was found to refuse it since; and if the core has more for it, so that it takes nothing of it, there is no space
+-- was found to take no more since; and if the core has more for it, so that it takes nothing of it, there is no space
 -- for more, and else there is nothing of it
 abbrev pub is_at_rest : Sent → Received → Bool
 is_at_rest sent received = not sent.lost && ((not (is_owed sent) || sent.full) && cond sent.cut (is_full sent)
@@ -190,13 +190,13 @@ accepted a (Ok done) = record a {
 accepted a (Err fault) = a
 
 -- what the listener said
-abbrev pub heard_refusal : Received → IoFailure → Received
-heard_refusal received WouldBlock = record received { quiet = true }
-heard_refusal received other = received
+abbrev pub heard_failure : Received → IoFailure → Received
+heard_failure received WouldBlock = record received { quiet = true }
+heard_failure received other = received
 
 abbrev pub heard : Received → Result Unit ErrorKind → Received
 heard received (Ok done) = received
-heard received (Err fault) = heard_refusal received (failure_of fault)
+heard received (Err fault) = heard_failure received (failure_of fault)
 
 -- the core closes it
 abbrev pub left_by_core : Account → Account

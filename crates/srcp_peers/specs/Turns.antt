@@ -182,7 +182,7 @@ backpressure_delay turn = cond (is_behind turn.previous_slack && is_behind turn.
 abbrev pub has_ticked : Turn → Bool
 has_ticked turn = not (turn.clock == turn.previous_clock) || nat_lt 0 (backpressure_delay turn)
 
--- what is flushed: all once the clock went on, and before a wait for more than what is ready; the sockets that refused
+-- what is flushed: all once the clock went on, and before a wait for more than what is ready; the sockets that took no
 -- more are tried again then if not every line may go
 abbrev pub flushing : (ticked held : Bool) → Turn → Flush
 flushing true held turn = cond (is_short turn.slack) Again All
