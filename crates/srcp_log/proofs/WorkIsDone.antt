@@ -21,7 +21,7 @@ use Rattle.srcp_peers.specs.declared.system.IoFailure.{IoFailure}
 use Rattle.srcp_peers.specs.declared.system.IoFailure.TheVariants.{WouldBlock, Interrupted, Fatal}
 use Rattle.srcp_peers.specs.declared.turn.Listening.{Listening}
 use Rattle.srcp_peers.specs.declared.turn.Turn.{Turn}
-use Rattle.srcp_peers.specs.Accounts.{Account, accepted, account, account_step, closed, heard_refusal, is_held, read_in, read_of}
+use Rattle.srcp_peers.specs.Accounts.{Account, accepted, account, account_step, closed, heard_failure, is_held, read_in, read_of}
 use Rattle.srcp_peers.specs.Accounts.{failed_read, failed_write, shut_down, untouched, waited, woken, woken_came, woken_sent}
 use Rattle.srcp_peers.specs.Peers.{Agrees, ComesAs, StaysAs, holds_input, is_here}
 use Rattle.srcp_peers.specs.Steps.{Accepts, Answers, Clocks, Closes, Reads, SaysNothing, Shuts, Step, Waits, Writes}
@@ -200,7 +200,7 @@ takes_accepted socket number a (Ok done) takes = by (socket == 0) (number == soc
 takes_accepted socket number a (Err fault) takes = by (socket == 0) (number == socket) (failure_of fault)
   where
     by : (b c : Bool) (said : IoFailure)
-        → takes_input (if b then record a { received = heard_refusal a.received said } else if c then a else a) ≡ true
+        → takes_input (if b then record a { received = heard_failure a.received said } else if c then a else a) ≡ true
     by true c WouldBlock = takes
     by true c Interrupted = takes
     by true c Fatal = takes
