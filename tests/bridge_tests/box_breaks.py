@@ -15,6 +15,8 @@ BOX_BREAKS = [
     ("box", "box", "what the panel tells late is an ask", "while not await self.mirror.shows(device):", "while False:"),
     ("box", "box", "a bus that is not there is not told of",
      "for bus in sorted({bus for bus, _ in self.plan.accessories()}):", "for bus in []:"),
+    ("box", "box", "a bus of signals alone may be missing", "for bus, _ in self.plan.accessories()}):",
+     "for bus, number in self.plan.accessories() if (bus, number) not in self.plan.signals}):"),
     ("box", "box", "what is refused counts as accepted", "interlock.tell(reply)", "interlock.tell(\"200 OK\")"),
     ("box", "box", "a route that was not set is given back", "if is_set != (number in self.set):", "if True:"),
     ("interlock", "box", "what was asked for before is set", "if key[1] == \"FB\"]:",

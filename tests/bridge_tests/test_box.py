@@ -332,10 +332,11 @@ class Box(Case):
             self.assertRegex(box.told(), rf"\A-- {about}: .*\n\Z")
 
     def test_a_bus_that_the_server_does_not_have(self):
-        """It names the plan, and the bus of the routes or that of a turnout."""
-        for bus, of_routes, of_turnout in (7, 7, 1), (8, 3, 8):
+        """It names the plan, and the bus of the routes, that of a turnout or that of a signal."""
+        for bus, of_routes, of_turnout, of_signal in (7, 7, 1, 2), (8, 3, 8, 2), (9, 3, 1, 9):
             plan = Path(new_folder(), "plan.toml")
-            plan.write_text(f"bus = {of_routes}\n[[route]]\nnumber = 1\nturnouts = [[{of_turnout}, 1, 1]]\n")
+            plan.write_text(f"bus = {of_routes}\n[[route]]\nnumber = 1\nturnouts = [[{of_turnout}, 1, 1]]\n"
+                            f"signal = [{of_signal}, 1, 1, 0]\n")
             box = self.starts("box.py", "--plan", plan, "--program", common.SERVER)
             self.assertEqual(box.process.wait(WAIT), 2)
             said = f"-- server: joined, started anew\n-- --plan {plan}: bus {bus}: the server has no such bus\n"
