@@ -352,6 +352,7 @@ def main():
         sys.exit(f"{program} is not built: ./run --build builds it")
     if signal.getsignal(signal.SIGHUP) is signal.SIG_IGN:  # by nohup: what is started here would ignore it too
         signal.signal(signal.SIGHUP, lambda *_: None)
+    os.environ.pop("PYTHONUNBUFFERED", None)  # with it nothing would be left to write once nobody reads
     cases = cases_by_name()
     if unknown := [name for name in names if name not in cases]:
         sys.exit(f"no such case: {' '.join(unknown)}")
