@@ -1,4 +1,7 @@
 """withrottle.py with a plan: phones are offered its routes once a program sets them."""
+import signal
+import time
+
 from .common import LAYOUT, TOP, WAIT, program
 from .phones import WiThrottleCase
 
@@ -39,6 +42,11 @@ class WiThrottleWithRoutes(WiThrottleCase):
         for name in ("9", "4", "x", ""):
             phone.send(f"PRA2{name}")
             phone.got(f"HMno route {name}")
+        self.bridge.send(signal.SIGSTOP)
+        phone.send("PRA21")
+        time.sleep(1.5)
+        self.bridge.send(signal.SIGCONT)
+        phone.got("HMnot done, since this program was stopped meanwhile")
         self.assertEqual([line for line in phone.lines if line.startswith("PRA")], ["PRA21", "PRA41", "PRA22"])
 
     def test_routes_that_come_and_go(self):
