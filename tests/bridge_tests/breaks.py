@@ -142,6 +142,8 @@ BREAKS = [  # the file, whose cases, what is wrong, the text, what stands in its
      "if not entry and (number := re.fullmatch(\"[SL]([0-9]{1,5})\", key)):"),
     ("phone_layout", "withrottle", "lists are told at the beginning alone",
      "            self.list_anew(group)\n", "            pass\n"),
+    ("phone_words", "withrottle", "power off that a phone sent while this program was stopped is refused",
+     "if line.is_old and line.turn == USUAL:", "if line.is_old:"),
     ("phone_words", "withrottle", "a route that a phone asked for while this program was stopped is set",
      "                self.refuse_old(line)\n                await", "                await"),
     ("phone_routes", "withrottle", "routes are offered that no program sets",

@@ -88,8 +88,13 @@ class WiThrottleStops(WiThrottleCase):
             phone.settled()
             time.sleep(1)  # what comes in now was sent now
         self.lacks("100 INFO 1 GA 7 1 1")
-        phone.send("M0A*<;>V20")
-        self.has("100 INFO 1 GL 3 1 20 126")
+        phone.send("M0A*<;>V20", "PPA1")
+        self.has("100 INFO 1 GL 3 1 20 126", "100 INFO 1 POWER ON")
+        self.bridge.send(signal.SIGSTOP)
+        phone.send("PPA0")
+        time.sleep(1.5)
+        self.bridge.send(signal.SIGCONT)
+        self.has("100 INFO 1 POWER OFF")
 
     def test_what_waits_does_not_undo_a_stop_of_others(self):
         phone = self.phone_with("S3")
