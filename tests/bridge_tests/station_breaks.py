@@ -147,6 +147,8 @@ STATION_BREAKS = [  # the file, whose cases, what is wrong, the text, what stand
      "        self.driven[address] = ()\n", ""),
     ("hands", "dcc-ex", "a refusal to make one is told of with each report",
      "if address not in self.refused and", "if"),
+    ("hands", "hands", "one whose server went as it was made drives on",
+     "        except ConnectionError:\n", "        except ZeroDivisionError:\n"),
     ("hands", "hands", "one that another made meanwhile, and has locked, is told of as a fault",
      " and not str(reply).startswith(\"414\"):", ":"),
     ("track", "z21", "what stands in the dark drives", "if self.told.get(POWER) else []", ""),

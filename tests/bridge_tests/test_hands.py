@@ -126,6 +126,17 @@ class HandsBeforeRows(unittest.IsolatedAsyncioTestCase):
             self.tells(*after)
             self.assertEqual((self.waits(), said.called), ((0, 1), False))
 
+    async def test_one_whose_server_goes_at_the_init_stands(self):
+        async def lost(command):
+            if command == self.INIT:
+                raise ConnectionError
+            return await self.answers(command)
+
+        self.bus.mirror.ask = lost
+        self.assertIsNone(await self.told())
+        self.bus.join(True)
+        self.assertEqual(self.waits(), (0, 1))
+
     async def test_an_echo_and_a_stand_make_nothing(self):
         """Of one that was taken out while its echo was on the way, and of one that a hand has stand."""
         self.hands.reports.telling(("cab", 77), (63, 1))
