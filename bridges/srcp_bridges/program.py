@@ -31,12 +31,17 @@ def say(text):
             print(f"-- {printable(text)}", file=sys.stderr, flush=True)
 
 
+def drop(stream):
+    """Has what is not written yet go nowhere."""
+    os.dup2(os.open(os.devnull, os.O_WRONLY), stream.fileno())
+
+
 def tell(text):
     """Prints a text on standard output. Ends the program without a word once nobody reads that, as `head` wants it."""
     try:
         print(text, flush=True)
     except BrokenPipeError:
-        os.dup2(os.open(os.devnull, os.O_WRONLY), sys.stdout.fileno())  # for what is not written yet
+        drop(sys.stdout)
         sys.exit(128 + signal.SIGPIPE)
 
 
@@ -102,6 +107,10 @@ def run(program):
         asyncio.run(until_told())
     except asyncio.CancelledError:
         say("ended")
+        try:
+            sys.stderr.flush()
+        except OSError:
+            drop(sys.stderr)  # its terminal is gone
     except Wrong as fault:
         print(f"-- {printable(str(fault))}", file=sys.stderr)
         sys.exit(2)
