@@ -13,18 +13,32 @@ import re
 from typing import Any
 
 from srcp_bridges.program import run, say
+from srcp_bridges.rows import FORWARD
+from srcp_bridges.stations.confirmed import Confirmed
 from srcp_bridges.stations.line import Line, place
-from srcp_bridges.stations.station import Station, words_of_driver
+from srcp_bridges.stations.station import words_of_driver
+from srcp_bridges.stations.track import FUNCTIONS
 
 MESSAGE = re.compile(
-    r"<(?:(?P<banner>iDCC.*)|(?P<sensor>[Qq]) (?P<number>\d{1,5})|# (?P<slots>\d{1,4})|p(?P<power>[01])(?: MAIN| JOIN)?"
-    r"|(?P<overload>\*.*OVERLOAD.*)|l (?P<cab>\d{1,5}) -?\d+ (?P<speed>\d{1,3}) (?P<functions>\d{1,10})|(?P<refused>X)"
+    r"<(?:(?P<banner>iDCC.*)|(?P<sensor>[Qq]) (?P<number>\d{1,5})|# (?P<slots>\d{1,4})"
+    r"|p(?P<power>[01])(?: (?P<track>MAIN|JOIN|PROG|[A-H]))?|(?P<overload>\*.*(?:OVERLOAD|FAULT|ALERT).*)"
+    r"|l (?P<cab>\d{1,5}) (?P<slot>-?\d+) (?P<speed>\d{1,3}) (?P<functions>-?\d{1,10})|(?P<refused>X)"
     r"|[rv] ?(?P<cv>\d{1,4}) (?P<value>-[123]|\d{1,3}))>",
     re.ASCII | re.DOTALL)
+ASKS = 5  # looks at what is not confirmed from one question how a locomotive drives to the next
 
 
-class DccEx(Station):
-    """The text of DCC-EX: commands and messages stand between < and >."""
+def ask_locomotive(address: int) -> bytes:
+    return f"<t {address}>\n".encode()
+
+
+class DccEx(Confirmed):
+    """The text of DCC-EX: commands and messages stand between < and >.
+
+    A station reports a locomotive as that changes. So it is asked how it drives if it is told what it has reported
+    already, or is told something again. Turnouts it does not report.
+    """
+    IN_ORDER = True
     END = b">"
     HELLO = b"<s>\n"
     ALIVE = b"<#>\n"
@@ -34,24 +48,60 @@ class DccEx(Station):
     def __init__(self, asked):
         super().__init__(asked)
         self.where = place(asked.station)
+        self.asked: set[int] = set()  # locomotives of which the station was asked what it kept
+        self.unsaid: set[int] = set()  # those of which it has not said that yet
+        self.slotted: set[int] = set()  # those for which it has a slot, as far as it has said
+        self.ticks = 0
+        self.names_tracks = False  # it tells the power of each track by its letter: A is the main track
 
     async def connect(self) -> Line:
         return await Line.open(self.where)
 
+    def greeted(self, message):
+        """What drove before may not be in the registry: nobody could see that this stop was lost. So it is told
+        twice."""
+        super().greeted(message)
+        self.line.write(self.STOP_ALL)
+        self.asked.clear()
+        self.unsaid.clear()
+        self.slotted.clear()
+
+    def look(self):
+        """Tells a STOP ALL again that has not stopped what a hand drives and the registry does not have. Asks of one
+        locomotive after the other what the station may have kept, or reported in vain."""
+        if self.bus.stopping and any(speed > 0 for speed, *_ in self.track.others.values()):
+            self.say_stop_all()
+        self.ticks += 1
+        if self.ticks % ASKS or not self.ahead.fits(urgent=False):
+            return
+        known = sorted(self.track.known)
+        if new := self.bus.addresses() - self.asked:
+            address = min(new)
+            self.asked.add(address)
+            self.unsaid.add(address)
+        elif known:
+            address = known[self.ticks // ASKS % len(known)]
+        else:
+            return
+        question = ask_locomotive(address)
+        self.ahead.tell(len(question))
+        self.line.write(question)
+        if not self.ahead.fits(urgent=False):
+            self.track.changed.set()  # has the station asked whether it has read that
+
     def encode(self, part: tuple, value: Any) -> bytes:
         """Returns the command that puts a part of the track so."""
-        match part, value:
-            case ("power",), on:
-                text = f"{on}"
-            case ("cab", address), _:
-                text = f"t {address} {value[0]} {value[1]}"
-            case ("function", address, number), on:
-                text = f"F {address} {number} {on}"
-            case ("turnout", address), port:
-                text = f"a {address} {port}"
-            case ("forget", address), _:
-                text = f"- {address}"
-        return f"<{text}>\n".encode()
+        words = {"power": "{value}", "cab": "t {} {value[0]} {value[1]}", "function": "F {} {} {value}",
+                 "turnout": "a {} {value}", "forget": "- {}"}
+        return f"<{words[part[0]].format(*part[1:], value=value)}>\n".encode()
+
+    def command(self, part: tuple, value: Any) -> bytes:
+        """Returns the command, and a question for what it may not report."""
+        usual = (0, FORWARD) if part[0] == "cab" else 0
+        is_again = part in self.awaited.since and part not in self.awaited.parts
+        is_quiet = is_again or self.hands.reports.reported.get(part, usual) == value
+        asks = part[0] in ("cab", "function") and is_quiet
+        return self.encode(part, value) + (ask_locomotive(part[1]) if asks else b"")
 
     def encode_cv(self, cv: int, value: int | None) -> bytes:
         """Returns the command that reads a CV, or writes a value into it, at the programming track."""
@@ -74,19 +124,63 @@ class DccEx(Station):
             self.programming.take(int(found["cv"]), int(found["value"]))
         elif found["refused"]:
             say("station: refused a command")
+            self.awaited.hasten()
         elif self.ready.is_set():
             self.reported(found)
 
     def reported(self, found):
         """Takes what may be an echo of what the station was told, or not."""
         if found["power"]:
-            self.hands.power(int(found["power"]))
+            self.take_power(int(found["power"]), found["track"])
         elif found["overload"]:
             self.hands.overload()
         else:
             code = int(found["speed"]) & 127  # 0 stands, 1 is an emergency stop, 2 is the first step
             speed = code - 1 if code > 1 else -code
-            self.hands.locomotive(int(found["cab"]), speed, int(found["speed"]) >> 7 & 1, int(found["functions"]))
+            way, functions = int(found["speed"]) >> 7 & 1, int(found["functions"])  # below 0 if F31 is on
+            if int(found["slot"]) >= 0:
+                self.slotted.add(int(found["cab"]))
+                self.heard_locomotive(int(found["cab"]), (speed, way), functions)
+            else:
+                self.heard_of_no_slot(int(found["cab"]))
+            self.unsaid.discard(int(found["cab"]))  # without a slot the station has kept nothing of it
+
+    def heard_of_no_slot(self, address: int) -> None:
+        """The station keeps nothing of a locomotive. If it did, another throttle there has given the slot away: it
+        stands, and nobody here knows in which direction the decoder would start."""
+        if address in self.slotted & self.track.known and ("cab", address) not in self.awaited.parts:
+            say(f"station: has forgotten locomotive {address}: another throttle there gave its slot away")
+            _, way = self.hands.reports.reported.get(("cab", address), (0, FORWARD))
+            self.heard_locomotive(address, (0, way), 0)
+            self.track.known.discard(address)
+            self.hands.forgotten.add(address)
+        self.slotted.discard(address)
+
+    def heard_locomotive(self, address, drives, functions):
+        is_first = address in self.unsaid or address not in self.asked and drives[0] < 0  # an echo of the first stop
+        if is_first and self.track.locomotive(address)[0]:
+            self.take_kept(address, functions)
+        self.asked.add(address)  # what it reports from now on is new
+        self.unsaid.discard(address)
+        super().heard_locomotive(address, drives, functions)
+
+    def take_kept(self, address: int, functions: int) -> None:
+        """Takes the functions that a station has kept, of before this driver: they are put as the registry has them."""
+        for part in [("function", address, number) for number in range(FUNCTIONS) if functions >> number & 1]:
+            if part not in self.track.told:
+                self.track.told[part] = self.hands.reports.reported[part] = 1
+                self.track.mark(part)
+
+    def take_power(self, on: int, track: str | None) -> None:
+        """Takes the power of a track. If a station does not name tracks by letters, a lone `<p1 PROG>` says that the
+        main track is off."""
+        self.names_tracks |= len(track or "") == 1
+        if track == "PROG":
+            if not on or self.names_tracks:
+                return
+            on = 0
+        if track in (None, "MAIN", "JOIN", "PROG", "A"):
+            self.heard_power(on)
 
 
 async def drive(asked):

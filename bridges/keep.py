@@ -11,7 +11,7 @@ import os
 import shutil
 
 from srcp_bridges.program import CannotGoOn, arguments, run, say
-from srcp_bridges.rows import EMERGENCY_STOP, FORWARD, Refused, position
+from srcp_bridges.rows import EMERGENCY_STOP, FORWARD, STOP_ALL, Refused, is_of_driver, position
 from srcp_bridges.srcp import Mirror
 
 TOGETHER = 0.002  # seconds between two ports of an accessory, so that their stamps tell which was put last
@@ -26,7 +26,8 @@ def commands_of(rows, power, way=lambda bus, address: FORWARD):
     for bus, group, address, part in sorted(wanted, key=lambda key: (key[0], GROUPS.index(key[1]), key[2])):
         row = rows[bus, group, address, part]
         if group == "POWER":
-            commands.append(f"SET {bus} POWER {'ON' if row.on else 'OFF'} {row.text}".rstrip(" "))
+            text = "" if row.text == STOP_ALL or is_of_driver(row.text) else row.text  # that was of its moment
+            commands.append(f"SET {bus} POWER {'ON' if row.on else 'OFF'} {text}".rstrip(" "))
             continue
         commands.append(f"INIT {bus} {group} {address} {' '.join(map(str, row[1:]))}")
         if drive := rows.get((bus, group, address, "does")):

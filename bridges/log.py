@@ -2,45 +2,56 @@
 """Writes each change of the registry, and each session that comes and goes, to standard output, with the time of day.
 
 The server keeps no log. As a unit (`srcp_bridge@log`) this one has the journal keep it. FILE (TOML) names devices:
-"1 GL 3" = "V 100". At the start the sessions that are there are written, and no other row that is there.
+"1 GL 3" = "V 100". At the start the sessions that are there are written, and no other row that is there. A session has
+the name of its program behind it, if that is one of bridges/ on this machine: a line of its own tells it.
 """
+import argparse
+import asyncio
 import time
 
+from srcp_bridges import state
 from srcp_bridges.program import arguments, names, run, tell
 from srcp_bridges.rows import BACKWARD, EMERGENCY_STOP, FORWARD, Change, Drive, Lock, Peer, Port, Power
 from srcp_bridges.srcp import Mirror
 
 MODES = {BACKWARD: "backward", FORWARD: "forward", EMERGENCY_STOP: "emergency stop"}
 KINDS = {"GL": "locomotive", "GA": "accessory"}
+SOON = 0.3  # seconds until a program has told that a session is its own
 
 
-def words_of(change: Change) -> str:
-    """Returns in words what a change does to its device."""
+def words_of(change: Change, whose: dict[int, str]) -> str:
+    """Returns in words what a change does to its device. `whose` names sessions."""
     _, group, _, part = change.key
-    match change.row:
-        case None:
-            return "ends" if group == "SESSION" else "unlocked" if part == "lock" else f"the {KINDS[group]} is gone"
-        case Peer() as session:
-            return f"{session.mode} begins"
-        case Lock() as lock:
-            return f"locked by session {lock.session}"
-        case Power() as power:
-            return f"{'ON' if power.on else 'OFF'} {power.text}".rstrip()
-        case Drive() as drive:
-            on = [f"F{number}" for number, value in enumerate(drive.functions) if value]
-            return f"{MODES[drive.mode]} {drive.v} of {drive.v_max} {' '.join(on)}".rstrip()
-        case Port() as port:
-            return str(port.value) if group == "FB" else f"port {part}: {port.value}"
-        case made:
-            return f"made: {' '.join(map(str, made[1:]))}"
+    row = change.row
+    if not row:
+        return "ends" if group == "SESSION" else "unlocked" if part == "lock" else f"the {KINDS[group]} is gone"
+    if isinstance(row, Peer):
+        return f"{row.mode} begins"
+    if isinstance(row, Lock):
+        return f"locked by session {row.session}" + named(row.session, whose)
+    if isinstance(row, Power):
+        return f"{'ON' if row.on else 'OFF'} {row.text}".rstrip()
+    if isinstance(row, Drive):
+        on = [f"F{number}" for number, value in enumerate(row.functions) if value]
+        return f"{MODES[row.mode]} {row.v} of {row.v_max} {' '.join(on)}".rstrip()
+    if isinstance(row, Port):
+        return str(row.value) if group == "FB" else f"port {part}: {row.value}"
+    return f"made: {' '.join(map(str, row[1:]))}"
+
+
+def named(session: int, whose: dict[int, str]) -> str:
+    """Returns what stands behind a session: whose it is, if that is known."""
+    return f" ({whose[session]})" if session in whose else ""
 
 
 class Log:
-    """`since` is when the newest session began. A row that is older was listed as this program's panel began."""
+    """`since` is when the newest session began. A row that is older was listed as this program's panel began. `whose`
+    names the sessions that are there."""
 
     def __init__(self, asked):
         self.names = names(asked.names)
         self.since = 0.0
+        self.whose: dict[int, str] = {}
         self.mirror = Mirror(asked, self.told, self.joined, self.left)
 
     def joined(self, anew):
@@ -58,7 +69,24 @@ class Log:
         stamp = self.since if change.stamp is None else change.stamp
         if stamp >= self.since and (change.row or part in ("is", "lock")):
             device = f"{bus} {group}" + f" {address}" * (group != "POWER")
-            self.write(f"{self.names.get(device, device)}: {words_of(change)}")
+            whose = named(address, self.whose) if group == "SESSION" else ""
+            self.write(f"{self.names.get(device, device)}{whose}: {words_of(change, self.whose)}")
+        if group == "SESSION":
+            self.follow(address, bool(change.row))
+
+    def follow(self, session: int, is_there: bool) -> None:
+        """Has the name of a session that begins looked up soon, and forgets that of one that ends."""
+        if is_there and session not in self.whose:
+            asyncio.get_running_loop().call_later(SOON, self.look_up, session)
+        elif not is_there:
+            self.whose.pop(session, None)
+
+    def look_up(self, session: int) -> None:
+        """Writes whose a session is, if a program of this machine tells it, and the session is still there."""
+        name = state.names(self.mirror.server[1]).get(session)
+        if name and self.mirror.here and (0, "SESSION", session, "is") in self.mirror.rows:
+            self.whose[session] = name
+            self.write(f"0 SESSION {session}: it is of {name}")
 
     def write(self, text):
         moment = time.time()
@@ -66,10 +94,14 @@ class Log:
         tell(f"{day}.{int(moment * 1000) % 1000:03} {text}")
 
 
+async def follow(asked: argparse.Namespace) -> None:
+    await Log(asked).mirror.run()
+
+
 def main():
     words = arguments(__doc__)
     words.add_argument("--names", metavar="FILE", help="names of devices")
-    run(Log(words.parse_args()).mirror.run())
+    run(follow(words.parse_args()))
 
 
 if __name__ == "__main__":

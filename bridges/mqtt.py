@@ -30,7 +30,7 @@ from srcp_bridges.broker import check, connect, matches, publish
 from srcp_bridges.orders import Orders
 from srcp_bridges.rows import Refused, keys_of
 from srcp_bridges.srcp import Mirror
-from srcp_bridges.topics import announced, device_of, node, shown
+from srcp_bridges.topics import announced, device_of, node, shown, stop_button
 
 MOMENT = 0.3  # seconds until what the broker has and the registry has not is looked at again
 READING = 15.0  # seconds that the reading of what the broker has may take
@@ -57,12 +57,18 @@ class Bridge:
         self.behind = asyncio.Event()
         self.mirror = Mirror(asked, self.told, lambda anew: self.online(), self.online)
         self.orders = Orders(self.mirror, self.refused)
+        if asked.home_assistant:
+            self.announce(*stop_button(self.prefix))
 
     def told(self, change):
         for place, payload in shown(self.mirror.rows, change.key).items():
             self.want(self.prefix + place, payload, place.endswith(("/position", "/text")))
         if self.asked.home_assistant and (found := announced(self.mirror.rows, change.key, self.prefix, self.names)):
-            self.want(f"{self.asked.home_assistant}/{found[0]}/config", found[1], True)
+            self.announce(*found)
+
+    def announce(self, topic: str, payload: str | None) -> None:
+        """Has Home Assistant know an entity, or, without a payload, forget it."""
+        self.want(f"{self.asked.home_assistant}/{topic}/config", payload, True)
 
     def want(self, topic, payload, once):
         """Has the broker show a payload; `once`: not again, if it shows that already."""

@@ -14,7 +14,9 @@ answers these, by SRCP 0.8.4:
   INIT b SM NMRA, GET b SM 0 CV cv        a CV, if a driver on this machine has that bus; so SET, VERIFY and TERM
 
 An information session that sends GET 0 SERVER, GET 0 TIME or GET b DESCRIPTION is told that between its other lines,
-and after GET 0 TIME each minute of the clock.
+and after GET 0 TIME each minute of the clock. Functions that a locomotive does not have are left out of its SET.
+
+With --one-port all clients throw turnouts by port 0 alone, as JMRI does: 1 is the branch, and 0 is straight.
 """
 import asyncio
 import re
@@ -31,6 +33,8 @@ OF_ONE = 20  # those of one address
 LONGEST = 1000  # bytes of a line that the server reads
 WAITING = 1000  # lines of a client that may wait
 LINGER = 10.0  # seconds for which a WAIT goes on once its client has closed its side
+PULSE = 250  # milliseconds for which a turnout is thrown for a client that knows port 0 alone
+PORTS = re.compile(rb"(\S+ 100 INFO \d+ GA \d+ )([01]) ([01])\n")  # what a panel is told of a turnout
 FOREIGN = re.compile(rb"([ \t]*INIT[ \t]+\d+[ \t]+G[LA][ \t]+\d+[ \t]+)[AFLZ](?=[ \t\r]|$)", re.I)
 
 
@@ -62,7 +66,7 @@ class Proxy:
         return "200 OK"
 
     async def run(self):
-        async with await listen(lambda *ends: Client(self, *ends).serve(), self.asked.bind, self.asked.listen):
+        async with listen(lambda *ends: Client(self, *ends).serve(), self.asked.bind, self.asked.listen):
             await asyncio.gather(self.answers.mirror.run(), self.answers.tell_minutes())
 
 
@@ -74,7 +78,8 @@ class Client:
         self.reader = reader
         self.writer = writer
         self.lines: asyncio.Queue[bytes | None] = asyncio.Queue(WAITING)
-        self.replies: asyncio.Queue[None] = asyncio.Queue()  # how many came, and one more at the end
+        self.replies: asyncio.Queue[bytes] = asyncio.Queue()  # those that came, and an empty one at the end
+        self.keeps = False  # replies from the client: this program has asked
         self.mode = "COMMAND"
         self.id = 0
         self.is_panel = False
@@ -100,19 +105,29 @@ class Client:
         await self.lines.put(None)
 
     async def hear(self, upstream: asyncio.StreamReader):
-        """Passes on what the server says, and counts its replies until the lines of a panel begin."""
+        """Passes on what the server says, and takes its replies until the lines of a panel begin."""
         try:
             while line := await upstream.readline():
-                self.writer.write(line)
-                await self.writer.drain()
+                if not self.keeps:
+                    self.writer.write(self.as_told(line))
+                    await self.writer.drain()
                 if not self.is_panel:
                     words = line.split()
                     if not self.id and words[1:4] == [b"200", b"OK", b"GO"]:
                         self.id, self.is_panel = int(words[4]), self.mode == "INFO"
                         SELF.begins(self.port, self.id, f"client {self.peer}")
-                    self.replies.put_nowait(None)
+                    self.replies.put_nowait(line)
         finally:
-            self.replies.put_nowait(None)
+            self.replies.put_nowait(b"")
+
+    def as_told(self, line: bytes) -> bytes:
+        """Returns what the client is told by a line of the server. With --one-port a panel is told of each throw, and
+        by port 0 alone."""
+        is_port = self.is_panel and self.proxy.asked.one_port and PORTS.fullmatch(line)
+        if not is_port:
+            return line
+        begin, port, value = is_port.groups()
+        return begin + b"0 " + port + b"\n" if value == b"1" else b""
 
     async def serve(self):
         try:
@@ -146,7 +161,7 @@ class Client:
         """Returns the next line of the client; None if there is none, or the server has gone."""
         line = asyncio.create_task(self.lines.get())
         await asyncio.wait([line, self.hearing], return_when=asyncio.FIRST_COMPLETED)
-        if not line.done():
+        if self.hearing.done():
             line.cancel()
             return None
         return line.result()
@@ -164,9 +179,36 @@ class Client:
                     await self.writer.drain()
                 return
             line = FOREIGN.sub(rb"\1P", line)
+            if self.proxy.asked.one_port and keywords[0::2][:2] == ["SET", "GA"]:
+                line = by_its_own_port(line, words)
+            if keywords[0] in ("SET", "CHECK") and keywords[2] == "GL" and not self.is_panel:
+                return await self.drive(line, words)
         self.server.write(line + b"\n")
         if not self.is_panel:
             await self.replies.get()
+
+    async def drive(self, line: bytes, words: list[str]):
+        """Has the server carry out SET or CHECK of a locomotive. Functions that it does not have are left out: the
+        server refuses also a stop that has them."""
+        reply = await self.ask(line)
+        if reply.split()[1:2] == [b"418"]:
+            row = (await self.ask(f"GET {words[1]} GL {words[3]}".encode("latin-1"))).split()
+            if row[1:2] == [b"100"] and len(words) > len(row) - 2:  # a row has two words more than its SET
+                reply = await self.ask(" ".join(words[:len(row) - 2]).encode("latin-1"))
+        self.writer.write(reply)
+        await self.writer.drain()
+
+    async def ask(self, line: bytes) -> bytes:
+        """Returns the server's reply to a line of this program, which the client is not told; empty if the server has
+        gone."""
+        if self.hearing.done():
+            return b""
+        self.keeps = True
+        self.server.write(line + b"\n")
+        try:
+            return await self.replies.get()
+        finally:
+            self.keeps = False
 
     async def answer(self, command: str, bus: int, group: str, words: list[str]) -> str | None:
         """Returns the answer to a line that is answered here. An information session asks by GET alone."""
@@ -174,7 +216,9 @@ class Client:
         if self.is_panel and command != "GET":
             return None
         if (command, group) == ("GET", "DESCRIPTION"):
-            return await answers.describe(bus, words)
+            return await answers.describe(bus, words, self.service_mode.is_there(bus))
+        if self.proxy.asked.one_port and (command, group) == ("GET", "GA") and words[1:] == ["0"] and not self.is_panel:
+            return await answers.lies(bus, words[0])
         if (command, group) == ("WAIT", "FB"):
             return await self.waited(answers.wait_sensor(bus, words))
         if bus == 0 and group == "TIME":
@@ -197,9 +241,18 @@ class Client:
             task.cancel()
 
 
+def by_its_own_port(line: bytes, words: list[str]) -> bytes:
+    """Returns the line that throws a turnout, for one that sets port 0 to where the turnout is to lie."""
+    bus, place = words[1], words[3:]
+    if len(place) != 4 or place[1] != "0" or place[2] not in ("0", "1"):
+        return line
+    return f"SET {bus} GA {place[0]} {place[2]} 1 {PULSE}".encode("latin-1")
+
+
 def main():
     words = arguments(__doc__)
     add_arguments(words, "--listen", 4304, "clients")
+    words.add_argument("--one-port", action="store_true", help="clients throw turnouts by port 0 alone")
     run(Proxy(words.parse_args()).run())
 
 

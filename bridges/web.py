@@ -4,26 +4,31 @@
 Each page that is open is sent all rows and each change. Commands go by one session that all pages share; a page that
 takes a locomotive for itself has one of its own from then on. As a page goes, or is silent for SILENCE seconds, the
 locomotives stand that it has taken, and those that drive as it told them last.
-`--bind 0.0.0.0` serves the home network, to whoever knows the word: WORD, or one that is printed at the start. It goes
-over the network as it is. FILE (TOML) names devices: "1 GL 3" = "V 100".
+`--bind 0.0.0.0` serves the home network, to whoever knows the word: WORD, or one that is made once, and printed at each
+start. It goes over the network as it is. The address is printed too, as a code for phones if python3-qrcode is
+installed, and announced if python3-zeroconf is. FILE (TOML) names devices: "1 GL 3" = "V 100".
 """
 import asyncio
+import html
 import json
 import math
-import pathlib
 import secrets
 import urllib.parse
 
+from srcp_bridges.announce import announce
 from srcp_bridges.entrance import Entrance, guest_of
 from srcp_bridges.hosts import address_of, is_own, to_type
+from srcp_bridges.network import kept_word, show_code
 from srcp_bridges.page import BEHIND, Page, event, row_event
+from srcp_bridges.page_files import EVENTS, FILES, PAGE, STOPPED, WORD
 from srcp_bridges.places import Full, Places, add_arguments, listen
 from srcp_bridges.plan import read_plan
 from srcp_bridges.program import arguments, names, run, say
 from srcp_bridges.request import ARRIVE, IDLE, LONGEST_HEAD, NO_REQUEST, TEXT, answer, read_request
+from srcp_bridges.rows import ALL_STOOD, STOP_ALL
 from srcp_bridges.srcp import Mirror
 from srcp_bridges.state import stations
-from srcp_bridges.stop import stop_all
+from srcp_bridges.stop import stop_all, unsure
 
 AT_ONCE = 4  # pages of one browser: it has 6 connections, and STOP ALL needs one that is free
 MOST = 400  # connections in all
@@ -31,12 +36,9 @@ MOST_OF_ONE = 100  # those of one address
 KEPT = 40  # further ones, for stops alone
 KEPT_OF_ONE = 4
 LOOK = 1.0  # seconds until it is looked again at what drivers tell
-FOLDER = pathlib.Path(__file__).resolve().parent / "srcp_bridges"
 HTML = "text/html; charset=utf-8"
 JSON = "application/json"
-KINDS = {".css": "text/css; charset=utf-8", ".js": "text/javascript; charset=utf-8"}
-FILES = {f"/{path.name}": path for path in FOLDER.iterdir() if path.suffix in KINDS}
-EVENTS = "HTTP/1.1 200 OK\r\nContent-Type: text/event-stream\r\nCache-Control: no-store\r\nConnection: close\r\n\r\n"
+BEGUN = "HTTP/1.1 200 OK\r\nContent-Type: text/event-stream\r\nCache-Control: no-store\r\nConnection: close\r\n\r\n"
 
 
 def is_ours(asked):
@@ -48,7 +50,7 @@ def is_ours(asked):
 
 def enter(entrance, writer, asked, guest):
     """Asks for the word. Who was wrong too often has to wait; nobody else has."""
-    page = (FOLDER / "word.html").read_text("utf-8")
+    page = WORD
     if wait := entrance.wait(guest):
         return answer(writer, 429, HTML, page.replace('data-wait="0"', f'data-wait="{math.ceil(wait)}"'))
     is_wrong = bool(asked.cookies.get(entrance.cookie))  # of before a restart, or a guess
@@ -73,12 +75,15 @@ class Web:
         self.mirror = Mirror(asked, self.told, lambda anew: self.tell(event("here", True)),
                              lambda: self.tell(event("here", False)))
         address = address_of(asked.bind)
-        self.word = asked.word or (None if address and address.is_loopback else secrets.token_hex(4))
+        self.is_open = not (address and address.is_loopback)
+        self.word = asked.word or (kept_word() if self.is_open else None)
         self.entrance = Entrance(self.word, asked.web) if self.word else None
         self.places = Places(MOST, MOST_OF_ONE)
         self.kept = Places(KEPT, KEPT_OF_ONE)
         self.turned_away = None
         self.left_out: dict[str, str] = {}
+        self.stops_told = 0  # the STOP ALLs that pages were told of
+        self.asking: asyncio.Task | None = None  # whether the drivers confirm the last one
 
     async def look_at_drivers(self):
         """Tells pages what the drivers of this machine cannot drive, and why; of each bus its own driver counts."""
@@ -92,6 +97,8 @@ class Web:
 
     def told(self, change):
         self.tell(row_event(self.mirror, change.key, change.row))
+        if change.key[1] == "POWER" and change.row and change.row.text.startswith((STOP_ALL, ALL_STOOD)):
+            self.tell_stop()
 
     def tell(self, text):
         for page in self.pages.values():
@@ -134,19 +141,29 @@ class Web:
         if asked.body is None:
             return answer(writer, 413, TEXT, "too long\n")
         if asked.method == "GET" and asked.path in FILES:
-            path = FILES[asked.path]
-            return answer(writer, 200, KINDS[path.suffix], path.read_text("utf-8"))
+            return answer(writer, 200, *FILES[asked.path])
         if self.entrance and not self.entrance.is_open(asked.cookies.get(self.entrance.cookie, "")):
             return enter(self.entrance, writer, asked, guest)
-        if (asked.method, asked.path) == ("GET", "/events"):
+        if (asked.method, asked.path) == ("GET", EVENTS):
             return await self.events(reader, writer, asked.cookies.get("srcp_browser"))
         if (asked.method, asked.path) == ("GET", "/"):
             kept = [] if "srcp_browser" in asked.cookies else [f"srcp_browser={secrets.token_hex(8)}"]
-            return answer(writer, 200, HTML, (FOLDER / "web.html").read_text("utf-8"), kept)
+            return answer(writer, 200, HTML, PAGE, kept)
+        if (asked.method, asked.path) == ("POST", "/stop") and "x-page" not in asked.headers:
+            return answer(writer, *await self.stop_by_form(asked.cookies))
         if asked.method == "POST" and "x-page" in asked.headers:  # other sites cannot send this header
             seen = asked.headers.get("x-stops", "0")
             return answer(writer, *await self.obey(asked.path, asked.headers["x-page"], asked.body, int(seen)))
         return answer(writer, 404, TEXT, "no such page\n")
+
+    async def stop_by_form(self, cookies: dict[str, str]) -> tuple[int, str, str]:
+        """Carries out a STOP ALL of a page whose script does not run; returns status, kind and body of the answer. The
+        cookie is of that page: a browser sends it with no form of another site."""
+        if "srcp_browser" not in cookies:
+            return 404, TEXT, "no such page\n"
+        faults = await self.stop_all()
+        said = f"STOP ALL FAILED. {'; '.join(faults)}" if faults else "All locomotives stand."
+        return 200, HTML, STOPPED.replace("{class}", "failed" * bool(faults)).replace("{said}", html.escape(said))
 
     async def obey(self, path, key, body, seen=0):
         """Does what a page asks for; returns status, kind and body of the answer."""
@@ -180,10 +197,23 @@ class Web:
         holders = {page.session.id: page.session for page in self.pages.values() if page.session}
         stopping = asyncio.create_task(stop_all(self.mirror, holders))
         await asyncio.sleep(0)
-        count = self.mirror.stops.count
-        self.tell(event("stop", {f"{bus} GL {address}": count(bus, address)
-                                 for bus, group, address, part in self.mirror.rows if (group, part) == ("GL", "does")}))
+        self.tell_stop()
         return await stopping
+
+    def tell_stop(self) -> None:
+        """Tells pages of a STOP ALL once it is counted, whoever asked for it; and then whether all have stood."""
+        count = self.mirror.stops.count
+        if self.stops_told != self.mirror.stops.all:
+            self.stops_told = self.mirror.stops.all
+            self.tell(event("stop", {f"{bus} GL {address}": count(bus, address) for bus, group, address, part
+                                     in self.mirror.rows if (group, part) == ("GL", "does")}))
+        if self.asking:
+            self.asking.cancel()
+        self.asking = asyncio.create_task(self.tell_stood())
+
+    async def tell_stood(self) -> None:
+        """Tells pages the buses whose drivers do not confirm in time that all stand."""
+        self.tell(event("stood", await unsure(self.mirror)))
 
     async def events(self, reader, writer, browser):
         """Sends a page all rows and each change, until it is gone, silent, or too far behind."""
@@ -193,7 +223,7 @@ class Web:
         first += event("here", self.mirror.here)
         first += event("leftOut", self.left_out)
         rows = [row_event(self.mirror, *item) for item in self.mirror.rows.items()]
-        writer.write("".join([EVENTS, first, *rows]).encode())
+        writer.write("".join([BEGUN, first, *rows]).encode())
         self.pages[key] = page
         peer = writer.get_extra_info("peername")[0]
         why = "gone"
@@ -232,12 +262,17 @@ class Web:
             gone.cancel()
 
     async def run(self):
-        async with await listen(self.serve, self.asked.bind, self.asked.web, limit=LONGEST_HEAD):
+        async with listen(self.serve, self.asked.bind, self.asked.web, limit=LONGEST_HEAD) as server:
             asks = f" and asks for the word {self.word}" if self.word and not self.asked.word else ""
-            say(f"the page is at http://{to_type(self.asked.bind)}:{self.asked.web}/{asks}")
-            looking = asyncio.create_task(self.look_at_drivers())
+            address = f"http://{to_type(self.asked.bind)}:{self.asked.web}/"
+            say(f"the page is at {address}{asks}")
+            beside = [asyncio.create_task(self.look_at_drivers())]
+            if self.is_open:
+                show_code(address)
+                beside.append(asyncio.create_task(announce("_http._tcp", server)))
             await self.mirror.run()
-            looking.cancel()
+            for task in beside:
+                task.cancel()
 
 
 async def begin(asked):
@@ -247,7 +282,7 @@ async def begin(asked):
 def main():
     words = arguments(__doc__)
     add_arguments(words, "--web", 8303, "browsers")
-    words.add_argument("--word", help="what a page is asked for; with --bind a random one if none is given")
+    words.add_argument("--word", help="what a page is asked for; with --bind one that stays if none is given")
     words.add_argument("--names", metavar="FILE", help="names of devices")
     words.add_argument("--plan", metavar="FILE", help="names, labels of functions, and a track plan with its routes")
     words.add_argument("--silence", type=float, default=10.0, metavar="SECONDS",

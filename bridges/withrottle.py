@@ -20,7 +20,7 @@ from srcp_bridges.places import add_arguments, listen
 async def serve(asked):
     """Serves phones for ever."""
     layout = Layout(asked)
-    async with await listen(lambda *ends: Phone(layout, *ends).serve(), asked.bind, asked.listen, limit=4096) as server:
+    async with listen(lambda *ends: Phone(layout, *ends).serve(), asked.bind, asked.listen, limit=4096) as server:
         announcing = asyncio.create_task(announce("_withrottle._tcp", server))  # ended with this program's other tasks
         await asyncio.gather(layout.mirror.run(), layout.look_for_bus())
         announcing.cancel()

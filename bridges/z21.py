@@ -12,22 +12,31 @@ it on, and a locomotive stands until somebody commands it anew. Decoders of the 
 import asyncio
 from typing import Any
 
-from srcp_bridges.program import run
+from srcp_bridges.program import run, say
+from srcp_bridges.rows import STOP_ALL
 from srcp_bridges.stations import datasets
 from srcp_bridges.stations.confirmed import Confirmed
-from srcp_bridges.stations.datasets import ASK_STATUS, FLAGS, NOT_DRIVING, PROGRAMMING, SHORT_CIRCUIT, dataset, xbus
+from srcp_bridges.stations.datagrams import Datagrams
+from srcp_bridges.stations.datasets import (ASK_STATUS, FLAGS, NOT_DRIVING, PROGRAMMING, SHORT_CIRCUIT, STOPS_ALL,
+                                            dataset, xbus)
 from srcp_bridges.stations.hands import OFF, PROGRAMS
 from srcp_bridges.stations.line import network_place
 from srcp_bridges.stations.programming import NOBODY, SHORT
 from srcp_bridges.stations.registry import POWER
 from srcp_bridges.stations.station import words_of_driver
+from srcp_bridges.stations.thrown import Thrown
 
 PORT = 21105
 PULSE = 0.1  # seconds for which a turnout's output is on
 
 
 class Z21(Confirmed):
-    """The datasets of the LAN protocol. After each command the station is asked whether it is so."""
+    """The datasets of the LAN protocol. After each command the station is asked whether it is so. Datagrams get lost,
+    and come in any order."""
+    CONFIRMED = "power", "cab", "function", "turnout"
+    ANSWER = 0.2
+    REPEATS: float | None = 3.0  # seconds, more than a CV takes
+    ROOM, MOST, RESERVE = 180, 27, 0
     HELLO = dataset(datasets.SET_FLAGS, FLAGS) + dataset(datasets.SERIAL_NUMBER)
     SENSORS = dataset(datasets.GET_RMBUS, b"\0") + dataset(datasets.GET_RMBUS, b"\1")
     ALIVE = dataset(datasets.GET_FLAGS) + ASK_STATUS + SENSORS
@@ -38,28 +47,40 @@ class Z21(Confirmed):
         super().__init__(asked)
         self.where = network_place(asked.station, "neither HOST nor HOST:PORT", PORT)
         self.track.tops = tuple(datasets.FORMATS)
+        self.track.at_first = -1, None  # it may hold a speed of before
+        self.asked_code = False
+        self.thrown = Thrown(self.bus)
         self.pulses: dict[int, int] = {}  # turnouts of which an output is to go off, and that output
+        self.on: set[int] = set()  # turnouts of which an output is on: what is reported of one says that it is off
         self.looks = 0
+
+    async def connect(self) -> Datagrams:
+        return await Datagrams.open(self.where)
 
     # ---- what it is told
 
     def encode(self, part: tuple, value: Any) -> bytes:
         """Returns the command that puts a part of the track so."""
-        match part, value:
-            case ("power",), on:
-                return xbus(0x21, 0x80 | on) + ASK_STATUS
-            case ("cab", address), _:
-                command = datasets.drive(address, value[0], value[1], self.track.top_of(address))
-            case ("function", address, number), on:
-                command = datasets.function(address, number, on)
-            case ("turnout", address), port:
-                return datasets.output(address, port, 1) + datasets.ask_turnout(address)
-            case _:
-                return b""  # it has a place for each locomotive
-        return command + datasets.ask_locomotive(address)
+        kind = part[0]
+        if kind == "power":
+            return xbus(0x21, 0x80 | value) + ASK_STATUS
+        if kind == "turnout":
+            return datasets.output(part[1], value, 1) + datasets.ask_turnout(part[1])
+        if kind == "cab":
+            command = datasets.drive(part[1], value[0], value[1], self.track.top_of(part[1]))
+        elif kind == "function":
+            command = datasets.function(part[1], part[2], value)
+        else:
+            return b""  # it has a place for each locomotive
+        return command + datasets.ask_locomotive(part[1])
 
     def encode_cv(self, cv: int, value: int | None) -> bytes:
         return datasets.read_cv(cv) if value is None else datasets.write_cv(cv, value)
+
+    def telling(self, part, value):
+        super().telling(part, value)
+        if part[0] == "turnout":
+            self.on.add(part[1])
 
     def say_stop_all(self):
         """The station stops all until its power is switched on, also if that is on already."""
@@ -69,11 +90,19 @@ class Z21(Confirmed):
         self.track.mark(POWER)
 
     def look(self):
-        """Has outputs go off, and asks how one locomotive after the other drives."""
+        """Has outputs go off, and asks how one locomotive after the other drives, and one turnout after the other lies:
+        a hand may have driven it, or thrown it."""
+        self.thrown.look()
+        self.looks += 1
+        turnouts = sorted(part[1] for part in self.track.told if part[0] == "turnout")
+        for address in {*self.thrown.seen, *turnouts[self.looks % (len(turnouts) or 1):][:1]} - self.on:
+            self.line.write(datasets.ask_turnout(address))
         for address, port in self.pulses.items():
             self.line.write(datasets.output(address, port, 0) + datasets.ask_turnout(address))
+        if self.bus.silent and not self.asked_code:
+            self.asked_code = True
+            self.line.write(dataset(datasets.GET_CODE))
         if known := sorted(self.track.known):
-            self.looks += 1
             self.line.write(datasets.ask_locomotive(known[self.looks % len(known)]))
 
     async def leave(self):
@@ -91,6 +120,8 @@ class Z21(Confirmed):
                 self.line.write(self.HELLO)  # it has begun anew, and knows of nobody
                 self.ready.clear()
                 self.greeted("Z21, has forgotten this program")
+            elif header == datasets.GET_CODE and data[:1] == datasets.LOCKED:
+                say("station: a z21start that is locked: it drives by the network once its code is entered")
             elif header == datasets.RMBUS and len(data) == 11 and data[0] < 2:
                 for number, value in datasets.sensors_of(*data):
                     self.sense(number, value)
@@ -98,30 +129,32 @@ class Z21(Confirmed):
                 self.take_xbus(data[:-1])
 
     def take_xbus(self, data: bytes) -> None:
-        match list(data):
-            case [0x61, 0 | 1] | [0x81, 0]:  # its power; it stops all
-                self.heard_power(data[1])
-            case [0x61, 2]:
-                self.heard_power(0, PROGRAMS)
-            case [0x61, 8]:
-                self.hands.overload()
-            case [0x61, 0x12 | 0x13 as why]:
-                self.programming.take(None, SHORT if why == 0x12 else NOBODY)
-            case [0x64, 0x14, high, low, value]:
-                self.programming.take(high * 256 + low + 1, value)
-            case [0x62, 0x22, status]:
-                self.take_status(status)
-            case [0x43, high, low, 1 | 2 as port]:
-                self.turnout(high * 256 + low + 1, port - 1)
-            case [0xEF, high, low, steps, speed, *functions] if steps & 7 in datasets.REPORTED and functions:
-                on = datasets.functions_of(*functions)
-                self.locomotive((high & 63) << 8 | low, datasets.REPORTED[steps & 7], speed, on)
+        if data in (b"\x61\x00", b"\x61\x01"):
+            self.heard_power(data[1])
+        elif data == b"\x81\x00":  # somebody there has it stop all
+            self.heard_power(0, STOP_ALL)
+        elif data == b"\x61\x02":
+            self.heard_power(0, PROGRAMS)
+        elif data == b"\x61\x08":
+            self.hands.overload()
+        elif data in (b"\x61\x12", b"\x61\x13"):
+            self.programming.take(None, SHORT if data[1] == 0x12 else NOBODY)
+        elif data[:2] == b"\x64\x14" and len(data) == 5:
+            self.programming.take(data[2] * 256 + data[3] + 1, data[4])
+        elif data[:2] == b"\x62\x22" and len(data) == 3:
+            self.take_status(data[2])
+        elif data[:1] == b"\x43" and len(data) == 4 and data[3] in (1, 2):
+            self.turnout(data[1] * 256 + data[2] + 1, data[3] - 1)
+        elif data[:1] == b"\xef" and len(data) > 5 and data[3] & 7 in datasets.REPORTED:
+            on = datasets.functions_of(*data[5:])
+            self.locomotive((data[1] & 63) << 8 | data[2], datasets.REPORTED[data[3] & 7], data[4], on)
 
     def take_status(self, status):
         self.alive()
         if status & SHORT_CIRCUIT and self.track.told.get(POWER) and not self.awaits(POWER):
             self.hands.overload()
-        self.heard_power(int(not status & NOT_DRIVING), PROGRAMS if status & PROGRAMMING else OFF)
+        why = PROGRAMS if status & PROGRAMMING else STOP_ALL if status & NOT_DRIVING == STOPS_ALL else OFF
+        self.heard_power(int(not status & NOT_DRIVING), why)
 
     def locomotive(self, address, steps, code, functions):
         self.track.steps[address] = steps
@@ -131,10 +164,15 @@ class Z21(Confirmed):
         self.heard_locomotive(address, (speed, code >> 7), functions)
 
     def turnout(self, address, port):
-        """Its output goes off after a while. What the station says of the turnout then confirms that."""
-        self.pulses.pop(address, None)
-        if self.confirm(("turnout", address), port):
+        """Its output goes off after a while. What the station says of the turnout then confirms that. What it says
+        though it was told nothing is a hand's doing."""
+        if self.pulses.pop(address, None) is not None:
+            self.on.discard(address)
+        part = "turnout", address
+        if self.confirm(part, port):
             asyncio.get_running_loop().call_later(PULSE, self.pulses.setdefault, address, port)
+        elif part not in self.awaited.parts and self.has_heard(part, port):
+            self.thrown.report(address, port)
 
 
 async def drive(asked):

@@ -14,7 +14,7 @@ if sys.version_info < (3, 11):
 
 import tomllib
 
-from panel import tell
+from panel import add_version, tell
 
 # The whole numbers that each key may have, and those that it has if it is not there.
 NUMBERS = {
@@ -164,6 +164,7 @@ def lint(content):
 
 def main():
     words = argparse.ArgumentParser(description="Tells all faults of a configuration at once.")
+    add_version(words)
     words.add_argument("file", type=argparse.FileType("rb"))
     content = words.parse_args().file.read().decode(errors="surrogateescape").removeprefix("\ufeff")
     refused = lint(content)

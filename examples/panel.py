@@ -7,19 +7,36 @@ Ctrl-C ends it.
 """
 import argparse
 import os
+import re
 import signal
-import socket
 import sys
 import time
+from collections.abc import Iterator
+from contextlib import closing
+from pathlib import Path
 
-if sys.version_info < (3, 11):
-    sys.exit("this takes Python 3.11 or later")
-MOMENT = 0.5  # a listing has no end mark: after this many seconds without a line the panel holds all rows
-LONGEST = 3.0  # on a busy layout no such moment comes: it waits for one this long at most
-NAMES = {"POWER": 3, "GL": 4, "GA": 4, "FB": 4, "LOCK": 5, "SESSION": 4}  # where the name of a device ends, behind INFO
+from srcp_client import Closed, Rows, Session, apply
+
+TOP = Path(__file__).resolve().parent.parent  # the package's folder, or the repository
+VERSIONS = TOP / "version", TOP / "packaging" / "changelog"  # what tells the version there
+MOMENT = 0.5  # seconds without a line, after which all rows are listed
+LONGEST = 3.0  # seconds after which that is taken for so if lines come all the time
 
 
-def tell(text):
+def release() -> str:
+    """Returns the version of the package, or of the newest release of the repository: "1.15-1"."""
+    told = "".join(file.read_text() for file in VERSIONS if file.exists())
+    found = re.search(r"\d[\d.]*-\d+", told)
+    return found[0] if found else "of no release"
+
+
+def add_version(words: argparse.ArgumentParser) -> None:
+    """Has a program tell its release by --version."""
+    words.add_argument("--version", action="version", version=f"%(prog)s {release()}, for SRCP 0.8.4",
+                       help="tell its release, and end")
+
+
+def tell(text: str) -> None:
     """Prints a text. Ends the program without a word once nobody reads what it prints, as `head` wants it."""
     try:
         print(text, flush=True)
@@ -28,73 +45,54 @@ def tell(text):
         sys.exit(128 + signal.SIGPIPE)
 
 
-def lines_of(connection):
-    """Yields each line that the server sends, until it closes the connection, and None after a moment without a line,
-    or if no such moment came for too long. The last line before a close may be cut: what has no LF is dropped."""
-    connection.settimeout(MOMENT)
-    begun, since = b"", time.monotonic()
+def follow(session: Session) -> Iterator[str | None]:
+    """Yields each line of an information session until its end, and None where all rows are listed."""
+    session.socket.settimeout(MOMENT)
+    since = time.monotonic()
     while True:
         try:
-            more = connection.recv(65536)
+            yield session.line()
+            if b"\n" in session.unread or time.monotonic() - since < LONGEST:
+                continue
         except TimeoutError:
-            since = time.monotonic()
-            yield None
-            continue
-        if not more:
+            pass  # such a moment
+        except Closed:
             return
-        *lines, begun = (begun + more).split(b"\n")
-        yield from (line.decode("latin-1") for line in lines)
-        if time.monotonic() - since > LONGEST:
-            since = time.monotonic()
-            yield None
+        since = time.monotonic()
+        yield None
 
 
-def apply(rows, line):
-    """Puts in the row that an information line tells, or takes out all rows of the device that is gone. Returns whether
-    the panel knows the line's code and its group: it skips any other line."""
-    _, code, *words = line.split(" ")
-    if code not in ("100", "101", "102") or len(words) < 3 or words[2] not in NAMES:
-        return False
-    device = tuple(words[1:NAMES[words[2]]])
-    if code == "102":
-        for key in [key for key in rows if key[0] == device]:
-            del rows[key]
-    else:
-        port = words[4] if words[2] == "GA" and code == "100" else None
-        rows[device, code, port] = line
-    return True
-
-
-def watch(host, port):
+def watch(host: str, port: int) -> None:
     """Joins the server and prints what it tells, until it closes the connection."""
-    rows = {}
-    replies = 3
+    rows: Rows = {}
     told = False
-    with socket.create_connection((host, port)) as connection:
-        connection.sendall(b"SET CONNECTIONMODE SRCP INFO\nGO\n")
-        for line in lines_of(connection):
+    with closing(Session(host, port, "INFO")) as session:
+        for line in follow(session):
             if line is None:
                 if told:
                     tell(f"-- {len(rows)} rows")
                 told = False
-            elif replies:  # the welcome line, and the replies to the two lines that were sent
-                replies -= 1
             elif apply(rows, line):
                 tell(line)
                 told = True
 
 
-def main():
+def main() -> None:
     words = argparse.ArgumentParser(description="Prints what happens on a layout.")
+    add_version(words)
     words.add_argument("--host", default="127.0.0.1")
     words.add_argument("--port", type=int, default=4303)
     asked = words.parse_args()
+    last = ""
     while True:
         try:
             watch(asked.host, asked.port)
             tell("-- closed by the server")
+            last = ""
         except OSError as fault:
-            tell(f"-- {fault}")
+            if str(fault) != last:  # said once, and not each second
+                tell(f"-- {fault}")
+            last = str(fault)
         time.sleep(1)
 
 

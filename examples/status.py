@@ -9,30 +9,33 @@ import json
 import os
 import socket
 import sys
+from contextlib import closing, suppress
 from pathlib import Path
 
-from panel import apply, tell
+from panel import add_version, tell
+from srcp_client import Closed, Full, Rows, Session, apply
 
 COUNTED = {"GL": "locomotives", "GA": "turnouts", "FB": "sensors"}
 
 
-def snapshot(host, port, seconds):
-    """Returns the lines that a panel is sent that shuts down its sending side: after the listing the connection
-    ends."""
-    with socket.create_connection((host, port), seconds) as connection:
-        connection.sendall(b"SET CONNECTIONMODE SRCP INFO\nGO\n")
-        connection.shutdown(socket.SHUT_WR)
-        with connection.makefile(encoding="latin-1", newline="\n") as lines:
-            return lines.read().split("\n")[:-1]
+def snapshot(host: str, port: int, seconds: float) -> tuple[int, Rows]:
+    """Returns the id of the session that looks, and all rows. Full: the server has no place."""
+    rows: Rows = {}
+    with closing(Session(host, port, "INFO", seconds)) as session, suppress(Closed):
+        session.socket.shutdown(socket.SHUT_WR)  # so the server sends the whole listing, and closes
+        while True:
+            apply(rows, session.line())
+    return session.id, rows
 
 
 def programs():
-    """Yields what each program of bridges/ on this machine tells of itself (bridges/srcp_bridges/state.py)."""
+    """Yields what each program of bridges/ on this machine tells of itself (bridges/srcp_bridges/state.py), and its
+    process as `pid`."""
     own = Path(os.environ.get("XDG_RUNTIME_DIR") or Path.home() / ".local" / "state", "srcp_bridges")
     for file in [*Path("/run").glob("srcp_bridge_*/*.json"), *own.glob("*.json")]:
         try:
             if Path("/proc", file.stem).exists():
-                yield json.loads(file.read_text())
+                yield json.loads(file.read_text()) | {"pid": int(file.stem)}
         except (OSError, ValueError):
             pass  # it ended meanwhile, or belongs to somebody else
 
@@ -58,23 +61,20 @@ def summary(rows, own, names):
     yield f"locks: {', '.join(locks) or 'none'}"
 
 
-def main():
+def main() -> None:
     words = argparse.ArgumentParser(description="Tells who is connected to a server, and what it holds.")
+    add_version(words)
     words.add_argument("--host", default="127.0.0.1")
     words.add_argument("--port", type=int, default=4303)
     words.add_argument("--seconds", type=float, default=5, help="how long it waits for an answer")
     asked = words.parse_args()
     try:
-        lines = snapshot(asked.host, asked.port, asked.seconds)
+        own, rows = snapshot(asked.host, asked.port, asked.seconds)
+    except Full as fault:
+        return tell(str(fault))  # a server that is there
     except OSError as fault:
         sys.exit(f"no server answers at {asked.host}, port {asked.port}: {fault}")
-    if len(lines) < 3:
-        tell("the server is full: 64 programs are connected")
-        return
-    rows = {}
-    for line in lines[3:]:  # the welcome line and two replies come first, and the second has the session
-        apply(rows, line)
-    tell("\n".join(summary(rows, lines[2].split(" ")[-1], names(asked.port))))
+    tell("\n".join(summary(rows, str(own), names(asked.port))))
 
 
 if __name__ == "__main__":

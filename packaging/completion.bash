@@ -1,4 +1,4 @@
-# bash completion for srcp_server
+# bash completion for srcp_server, and for the programs beside it
 _srcp_server() {
 	local word=${COMP_WORDS[COMP_CWORD]} before=${COMP_WORDS[COMP_CWORD-1]} command=${COMP_WORDS[1]}
 	case $before in
@@ -21,3 +21,10 @@ _srcp_server() {
 	mapfile -t COMPREPLY < <(compgen -W "$words" -- "$word")
 }
 complete -o filenames -F _srcp_server srcp_server
+_srcp_program() {
+	local word=${COMP_WORDS[COMP_CWORD]}
+	mapfile -t COMPREPLY < <(compgen -W "$("$1" --help 2> /dev/null | grep -o -- '--[a-z][a-z-]*' | sort -u)" -f -- "$word")
+}
+complete -o filenames -F _srcp_program srcp-box srcp-dcc-ex srcp-doctor srcp-guard srcp-keep \
+	srcp-lint srcp-log srcp-mqtt srcp-panel srcp-program srcp-simulated-station srcp-simulated-z21 \
+	srcp-srcpd srcp-status srcp-throttle srcp-web srcp-withrottle srcp-z21

@@ -1,4 +1,4 @@
-# fish completion for srcp_server
+# fish completion for srcp_server, and for the programs beside it
 complete -c srcp_server -f
 complete -c srcp_server -n __fish_use_subcommand -a serve -d 'Serve throttles and panels on 127.0.0.1'
 complete -c srcp_server -n __fish_use_subcommand -a check -d 'Read a configuration or a plan, and print what it says'
@@ -12,3 +12,8 @@ complete -c srcp_server -n '__fish_seen_subcommand_from check interlock' -l plan
 complete -c srcp_server -n '__fish_seen_subcommand_from serve' -l turns -x -d 'End after N turns'
 complete -c srcp_server -l help -d 'Print the help'
 complete -c srcp_server -n __fish_use_subcommand -l version -d 'Print the version'
+for program in srcp-box srcp-dcc-ex srcp-doctor srcp-guard srcp-keep srcp-lint srcp-log srcp-mqtt \
+  srcp-panel srcp-program srcp-simulated-station srcp-simulated-z21 srcp-srcpd srcp-status \
+  srcp-throttle srcp-web srcp-withrottle srcp-z21
+  complete -c $program -a "($program --help 2> /dev/null | string match -ra -- '--[a-z][a-z-]*' | sort -u)"
+end

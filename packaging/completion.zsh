@@ -1,5 +1,9 @@
-#compdef srcp_server
-# zsh completion for srcp_server
+#compdef srcp_server srcp-box srcp-dcc-ex srcp-doctor srcp-guard srcp-keep srcp-lint srcp-log srcp-mqtt srcp-panel srcp-program srcp-simulated-station srcp-simulated-z21 srcp-srcpd srcp-status srcp-throttle srcp-web srcp-withrottle srcp-z21
+# zsh completion for srcp_server, and for the programs beside it
+if [[ $service != srcp_server ]]; then
+	_gnu_generic
+	return
+fi
 local -a commands config plan
 commands=(
 	'serve:serves throttles and panels on 127.0.0.1'

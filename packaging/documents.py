@@ -14,7 +14,8 @@ from concurrent.futures import ThreadPoolExecutor
 from pathlib import Path
 
 TOP = Path(__file__).resolve().parent.parent
-PAGES = ("docs/protocol.md", "docs/configuration.md", "docs/install.md", "docs/replay.md", "bridges/README.md")
+PAGES = ("docs/protocol.md", "docs/configuration.md", "docs/install.md", "docs/replay.md", "docs/plan.md",
+         "bridges/README.md")
 LINK = re.compile(r"!?\[([^\]]*)\]\((?!http)([^)#]*)(#[^)]*)?\)")
 
 

@@ -1,14 +1,15 @@
 #!/usr/bin/env python3
 """released.py: unpacks the released program for this machine, for ./run, and prints where it is. Status 1 if there is
-none that was made from these sources, or if the package is not the one of release/SHA256SUMS.
+none that runs here and was made from these sources: it says why.
 
 release/ has a Debian package for each kind of machine, SHA256SUMS, and in sources.sha256 the sum of the sources that
-the programs were made from. packaging/release makes it. This takes Python alone.
+the programs were made from. packaging/release makes it. This takes Python alone, of 3.8 or later.
 """
 import hashlib
 import io
 import os
 import re
+import struct
 import sys
 import tarfile
 from pathlib import Path
@@ -64,36 +65,93 @@ def program_of(package):
 
 
 def unpack(top, machine):
-    """Returns where the released program for that kind of machine is, and whether it was there; else it is unpacked
-    now. None if there is none for these sources. ValueError if a package is not what it should be."""
+    """Returns where the released program for that kind of machine is, and whether it was there whole; else it is
+    unpacked now. None if there is none for these sources. ValueError if a package is not what it should be."""
     found = released_packages(top).get(ARCHITECTURES.get(machine))
     if not found or not is_of_these_sources(top):
         return None
     name, told = found
     target = top / "out" / "released" / told / "srcp_server"
-    if target.exists():
-        return target, True
+    seal = target.with_suffix(".sha256")
+    if target.exists() and seal.exists() and seal.read_text() == sum_of(target.read_bytes()):
+        return target, True  # and not one that was cut, as by a loss of power
     package = (top / "release" / name).read_bytes()
     if sum_of(package) != told:
         raise ValueError(f"release/{name} is not the package whose sum is in release/SHA256SUMS")
+    program = program_of(package)
     target.parent.mkdir(parents=True, exist_ok=True)
-    begun = target.with_suffix(f".{os.getpid()}")
-    begun.write_bytes(program_of(package))
-    begun.chmod(0o755)
-    begun.rename(target)
+    for file, content in ((target, program), (seal, sum_of(program).encode())):
+        begun = file.with_suffix(f".{os.getpid()}")
+        begun.write_bytes(content)
+        begun.chmod(0o755 if file == target else 0o644)
+        begun.replace(file)
     return target, False
 
 
-def main():
+def library_of_this_system():
+    """Returns the C library of this system and its version: "glibc 2.36"; None if the system tells none."""
     try:
-        found = unpack(TOP, os.uname().machine)
+        return os.confstr("CS_GNU_LIBC_VERSION")
+    except (AttributeError, ValueError, OSError):
+        return None
+
+
+def needs_library(top):
+    """Returns the version of the C library that the released program takes, as its package says."""
+    control = (top / "packaging" / "debian" / "control").read_text()
+    return re.search(r"libc6 \(>= ([\d.]+)\)", control)[1]
+
+
+def reason(top, machine):
+    """Returns why no released program runs on this machine, or is of these sources; None if one does."""
+    if not sys.platform.startswith("linux"):
+        return f"the program runs on Linux, and this is {sys.platform}"
+    if machine not in ARCHITECTURES:
+        return f"there is no released program for {machine}: only for {' and '.join(ARCHITECTURES)}"
+    if struct.calcsize("P") != 8:
+        return f"this system is one of 32 bits, on a processor of 64 ({machine}), and the program takes one of 64 bits"
+    has, wanted = library_of_this_system(), needs_library(top)
+    name, _, version = (has or "").partition(" ")
+    if name != "glibc" or numbers(version) < numbers(wanted):
+        return f"the released program takes the GNU C library {wanted} or later, and this system has {has or 'another'}"
+    if ARCHITECTURES[machine] not in released_packages(top):
+        return f"release/ has no package for {machine}"
+    if not is_of_these_sources(top):
+        return "release/ has a program that was made from other sources than those in crates/"
+    return None
+
+
+def numbers(version):
+    return [int(number) for number in re.findall(r"\d+", version)]
+
+
+def owner_of(path):
+    try:
+        return path.owner()
+    except (KeyError, OSError):
+        return "somebody else"
+
+
+def refused(top, fault):
+    """Returns what to say if the program cannot be unpacked."""
+    if isinstance(fault, PermissionError):
+        return (f"{top} belongs to {owner_of(top)}, and you may not write there, so the released program cannot be "
+                "unpacked: clone it as yourself, or have its owner call ./run once")
+    return str(fault)
+
+
+def main():
+    machine = os.uname().machine
+    if why := reason(TOP, machine):
+        sys.exit(f"./run: {why}")
+    try:
+        program, was_there = unpack(TOP, machine)
     except (OSError, ValueError) as fault:
-        sys.exit(f"./run: {fault}")
-    if not found:
-        return 1
-    program, was_there = found
+        sys.exit(f"./run: {refused(TOP, fault)}")
+    if not os.access(program, os.X_OK):
+        sys.exit(f"./run: {program} may not be executed: is its file system mounted with noexec?")
     if not was_there:
-        name, _ = released_packages(TOP)[ARCHITECTURES[os.uname().machine]]
+        name, _ = released_packages(TOP)[ARCHITECTURES[machine]]
         told = f"./run: this is the program of release/{name}; ./run --build proves it and builds it here"
         print(told, file=sys.stderr)
     print(program)

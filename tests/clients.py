@@ -1,4 +1,5 @@
 """The clients of examples/, as a person runs them."""
+import os
 import re
 import signal
 import socket
@@ -9,7 +10,7 @@ import time
 from contextlib import contextmanager
 from pathlib import Path
 
-from serving import SECONDS, UNREAD, WELCOME, Client, run_unread, served
+from serving import SECONDS, UNREAD, WELCOME, Client, clients_at_all_places, run_unread, served
 
 TOP = Path(__file__).resolve().parent.parent
 EXAMPLES = TOP / "examples"
@@ -18,6 +19,7 @@ DRIVES = ["1 GL 12 1 4 28 0", "1 GL 12 1 4 28 1", "1 GL 12 0 0 28 1", "1 GL 12 2
 OPENING = ["0 SESSION 1 INFO", "1 POWER OFF", *(f"1 FB {sensor} 0" for sensor in range(1, 9))]
 DRIVEN = ["0 SESSION 2 COMMAND", "1 GL 12 N 1 28 1", "1 GL 12 1 0 0 0", *DRIVES, "0 SESSION 2"]
 BUSY_SECONDS = 7
+ENTER = "-- Enter stops it"
 
 
 @contextmanager
@@ -80,8 +82,8 @@ def panel_that_joins_again(program):
         for sensor in (1, 2):
             peer, _ = server.accept()
             with peer, peer.makefile("rb") as lines:
-                asked = [lines.readline(), lines.readline()]
                 peer.sendall(WELCOME + b"0.000 202 OK CONNECTIONMODE\n0.000 200 OK GO 1\n")
+                asked = [lines.readline(), lines.readline()]
                 peer.sendall(b"0.000 100 INFO 1 FB %d 1\n" % sensor)
             got = asked, printed_until(panel, "server")
             want = [b"SET CONNECTIONMODE SRCP INFO\n", b"GO\n"], [f"1 FB {sensor} 1", "-- closed by the server"]
@@ -122,6 +124,14 @@ def panel_on_a_busy_layout(program):
     return None if (last, in_time) == ("-- 11 rows", True) else f"got {last!r}, while changes came: {in_time}"
 
 
+def waits_of_the_panel(_: str) -> str | None:
+    """It waits for a listing as long as the protocol's page says."""
+    page = " ".join((TOP / "docs" / "protocol.md").read_text().split())
+    is_told = "`panel.py` waits for half a second without one, and 3 seconds at most" in page
+    waits = re.findall(r"^(MOMENT|LONGEST) = ([\d.]+)", (EXAMPLES / "panel.py").read_text(), re.M)
+    return None if is_told and waits == [("MOMENT", "0.5"), ("LONGEST", "3.0")] else f"{waits}; told: {is_told}"
+
+
 def throttle_of_a_train_that_runs(program):
     """It neither makes it anew nor changes its functions or its top speed; if it drove it, it stops it at its end."""
     with served(program) as (port, _):
@@ -130,7 +140,7 @@ def throttle_of_a_train_that_runs(program):
         got = [drives_by(port, "--address", "3", "light"), other.asks("GET 1 GL 3"),
                drives_by(port, "--address", "3", "faster"), other.asks("GET 1 GL 3")]
     want = [["1 GL 3 0 63 126 0 0 1 0 0"], "100 INFO 1 GL 3 0 63 126 0 0 1 0 0",
-            ["1 GL 3 0 81 126 0 0 1 0 0", "1 GL 3 0 0 126 0 0 1 0 0"], "100 INFO 1 GL 3 0 0 126 0 0 1 0 0"]
+            ["1 GL 3 0 81 126 0 0 1 0 0", ENTER, "1 GL 3 0 0 126 0 0 1 0 0"], "100 INFO 1 GL 3 0 0 126 0 0 1 0 0"]
     return None if got == want else f"got {got!r}, want {want!r}"
 
 
@@ -164,6 +174,64 @@ def throttle_that_ends_leaves_it_standing(program):
             if got != want:
                 return f"{end}: got {got!r}, want {want!r}; {told}"
     return None
+
+
+def throttle_that_drives_until_enter(program: str) -> str | None:
+    """With words it drives until Enter, or until it is ended. What stands by them waits for nothing."""
+    with served(program) as (port, _):
+        other = Client(port, "COMMAND")
+        words = [sys.executable, str(EXAMPLES / "throttle.py"), "--port", str(port), "faster"]
+        got = []
+        ends: list[str | signal.Signals] = ["\n", "", signal.SIGINT, signal.SIGTERM]
+        for end in ends:
+            with subprocess.Popen(words, stdin=subprocess.PIPE, stdout=subprocess.PIPE, text=True) as throttle:
+                assert throttle.stdin and throttle.stdout
+                told = [throttle.stdout.readline(), throttle.stdout.readline()]
+                time.sleep(0.3)
+                driven = other.asks("GET 1 GL 12"), throttle.poll()
+                if isinstance(end, str):
+                    throttle.stdin.write(end)
+                    throttle.stdin.close()
+                else:
+                    throttle.send_signal(end)
+                told += throttle.stdout.read().splitlines()
+            got.append((driven, told[1].strip(), told[2].endswith(" 1 0 28 0"), throttle.returncode))
+        stands = drives_by(port, "stop")
+    want = [(("100 INFO 1 GL 12 1 4 28 0", None), ENTER, True, 0)] * 4, ["1 GL 12 2 0 0 0"]
+    return None if (got, stands) == want else f"got {got!r}, {stands!r}"
+
+
+def throttle_says_what_is_wrong(program: str) -> str | None:
+    """A word that is none ends it with status 2 before it does anything; what the server refuses is said in words."""
+    with served(program) as (port, _):
+        def ended(*words: str) -> tuple[int, str]:
+            done = subprocess.run([sys.executable, EXAMPLES / "throttle.py", "--port", str(port), *words], input="",
+                                  capture_output=True, text=True, timeout=SECONDS)
+            return done.returncode, (done.stdout + done.stderr).splitlines()[-1]
+
+        other = Client(port, "COMMAND")
+        other.asks("INIT 1 GL 3 N 1 28 1", "SET 1 LOCK GL 3 0")
+        got = ended("faster", "fastr"), other.asks("GET 1 GL 12"), ended("--address", "10240", "faster"), \
+            ended("--address", "3", "faster")
+    want = ((2, "throttle.py: error: fastr is none of the words faster, slower, turn, light, stop, stop-all"),
+            "416 ERROR no data",
+            (1, "GET 1 GL 10240: a word is wrong, or a number out of its range, or there is no such bus (412)"),
+            (1, "SET 1 GL 3 1 4 28: another session has it locked (414)"))
+    return None if got == want else f"got {got!r}"
+
+
+def panel_of_a_full_server_says_so(program: str) -> str | None:
+    """Once, and not each second; it joins as soon as there is a place."""
+    with served(program) as (port, _):
+        clients = clients_at_all_places(port)
+        with panel_at(port) as panel:
+            first = panel.stdout.readline()
+            time.sleep(2.5)
+            for client in clients:
+                client.close()
+            second = panel.stdout.readline().partition(" ")[2]
+    want = "-- the server is full: 64 programs are connected\n"
+    return None if first == want and second.startswith("101 INFO 0 SESSION ") else f"got {first!r}, {second!r}"
 
 
 def throttle_whose_train_another_took(program):
@@ -210,7 +278,7 @@ def throttle_by_itself_meets_no_train_of_the_readme(_):
 
 def clients_say_how_they_are_started(_):
     """The first line of each tells all words that it takes, as its --help does."""
-    for client in sorted(EXAMPLES.glob("*.py")):
+    for client in sorted(file for file in EXAMPLES.glob("*.py") if os.access(file, os.X_OK)):
         help = [sys.executable, client, "--help"]
         told = subprocess.run(help, capture_output=True, text=True, timeout=SECONDS).stdout
         first = client.read_text().splitlines()[1]
@@ -220,7 +288,9 @@ def clients_say_how_they_are_started(_):
 
 
 CLIENT_CASES = (panel_that_watches_a_throttle, panel_that_joins_again, panel_that_skips_what_it_does_not_know,
-                panel_on_a_busy_layout, throttle_of_a_train_that_runs, throttle_with_any_number_of_functions,
-                throttle_that_ends_leaves_it_standing, throttle_whose_train_another_took,
+                panel_on_a_busy_layout, waits_of_the_panel, throttle_of_a_train_that_runs,
+                throttle_with_any_number_of_functions,
+                throttle_that_ends_leaves_it_standing, throttle_that_drives_until_enter, throttle_says_what_is_wrong,
+                panel_of_a_full_server_says_so, throttle_whose_train_another_took,
                 clients_that_nobody_reads_end_without_a_word, throttle_by_itself_meets_no_train_of_the_readme,
                 clients_say_how_they_are_started)

@@ -1,8 +1,10 @@
 """The Debian package that ./package makes, and the manual pages and completions in it."""
+import ast
 import functools
 import re
 import shutil
 import subprocess
+import sys
 import tempfile
 import time
 from contextlib import contextmanager
@@ -12,6 +14,9 @@ from pages import PACKING, TOP, missing_packaging_tools, reader_of_a_page, take_
 from serving import SECONDS, WELCOME, Client, TriedNothing, free_port, wait_for
 
 PACKAGING = TOP / "packaging"
+sys.path.insert(0, str(PACKAGING))
+from changes import dates, made, releases  # noqa: E402
+
 CONF = "etc/srcp_server.toml"
 
 
@@ -52,7 +57,7 @@ def package_serves_from_what_it_holds(program):
         port = free_port()
         config = root / CONF
         config.write_text(re.sub(r"^port = .*", f"port = {port}", config.read_text(), flags=re.M))
-        unit = (root / "lib/systemd/system/srcp_server.service").read_text()
+        unit = (root / "usr/lib/systemd/system/srcp_server.service").read_text()
         started = re.search(r"^ExecStart=(.*)$", unit, re.M)[1].replace(" /", f" {root}/")
         server = subprocess.Popen(f"{root}{started}".split())
         try:
@@ -61,8 +66,8 @@ def package_serves_from_what_it_holds(program):
         finally:
             server.kill()
             server.wait()
-        guarded = f"ConditionPathExists=/{CONF}\n" in unit
-        units = "".join(file.read_text() for file in (root / "lib/systemd/system").glob("*.service"))
+        guarded = f"AssertPathExists=/{CONF}\n" in unit
+        units = "".join(file.read_text() for file in (root / "usr/lib/systemd/system").glob("*.service"))
         named = re.findall(r"^ExecStart=\S+ (/\S+)", units.replace("${BRIDGE}", "web"), re.M)
         missing = [name for name in named if not (root / name[1:]).exists()]
     got = reply, guarded, missing
@@ -86,6 +91,22 @@ def package_is_the_same_to_the_byte(program):
             time.sleep(1.1)
     first, second = made
     return None if first == second else f"{len(first)} and {len(second)} bytes, which differ"
+
+
+def commands_are_named_and_completed(_):
+    """srcp_server(1) and each completion name the programs beside the server, and bash offers the options of one."""
+    files = [file for folder in ("bridges", "examples") for file in (TOP / folder).glob("*.py")]
+    names = [file.stem.replace("_", "-") for file in files if file.stem != "srcp_client"]
+    commands = {f"srcp-{name}" for name in names}
+    for name in ("srcp_server.1", "completion.bash", "completion.zsh", "completion.fish"):
+        if missing := commands - set(re.findall(r"srcp-[a-z0-9-]+", (PACKAGING / name).read_text())):
+            return f"{name} does not name {sorted(missing)}"
+    script = (f"source {PACKAGING}/completion.bash; COMP_WORDS=(srcp-web --ha); COMP_CWORD=1; "
+              f"_srcp_program {TOP}/bridges/web.py; COMP_WORDS=(srcp-web --po); _srcp_program {TOP}/bridges/web.py; "
+              "printf '%s' \"${COMPREPLY[@]}\"; complete -p srcp-web")
+    done = subprocess.run(["bash", "-c", script], capture_output=True, text=True, timeout=SECONDS)
+    offered = done.stdout == "--portcomplete -o filenames -F _srcp_program srcp-web\n"
+    return None if offered else f"bash offers {done.stdout}{done.stderr}"
 
 
 @with_packaging_tools
@@ -118,6 +139,42 @@ def package_that_is_purged_leaves_nothing(program):
     stays = {file for file in left[2] if "srcp" in file and not file.startswith("usr")} | (left[0] & {kept})
     got = missing, stays, set(others) <= left[2]
     return None if got == (set(), set(), True) else f"missing after removal, left after purge, others: {got}"
+
+
+def told_by_postinst(package, folder, active, *words):
+    """What the script prints that configures the package, with a systemctl that has these units run."""
+    root = Path(folder)
+    subprocess.run(["dpkg-deb", "--control", package, root / "DEBIAN"], check=True, timeout=SECONDS)
+    (root / "tools").mkdir(exist_ok=True)
+    units = "".join(f"{unit}.service loaded active running\n" for unit in active if "@" in unit)
+    tools = {"systemctl": f'case "$*" in *is-active*) exit {int("srcp_server" not in active)};; '
+                          f"*list-units*) printf '%s' '{units}';; esac", "deb-systemd-helper": ":"}
+    for name, text in tools.items():
+        (root / "tools" / name).write_text(f"#!/bin/sh\n{text}\n")
+        (root / "tools" / name).chmod(0o755)
+    for tool in ("sh", "cut", "tr"):
+        (root / "tools" / tool).symlink_to(shutil.which(tool))
+    script = (root / "DEBIAN" / "postinst").read_text().replace("/run/systemd/system", folder)
+    return subprocess.run([shutil.which("sh"), "-c", script, "postinst", *words], capture_output=True, text=True,
+                          timeout=SECONDS, check=True, env={"PATH": str(root / "tools")}).stdout
+
+
+@with_packaging_tools
+def package_that_is_upgraded_tells_what_runs(program):
+    """The server and the bridges that are of the package of before, and how the new ones are had. A first
+    installation tells nothing."""
+    bridges = "srcp_bridge@keep", "srcp_bridge@web"
+    trials = (("configure", "1.14-1"), ("srcp_server", *bridges)), (("configure", "1.14-1"), bridges), \
+        (("configure", "1.14-1"), ()), (("configure", ""), ("srcp_server", *bridges))
+    got = []
+    with package_of(program) as package:
+        for words, active in trials:
+            with tempfile.TemporaryDirectory() as folder:
+                told = told_by_postinst(package, folder, active, *words)
+            got.append(("restart srcp_server starts" in told,
+                        "restart srcp_bridge@keep.service srcp_bridge@web.service starts" in told, told == ""))
+    want = [(True, True, False), (False, True, False), (False, False, True), (False, False, True)]
+    return None if got == want else f"got {got}"
 
 
 @with_packaging_tools
@@ -179,9 +236,22 @@ def copyright_names_what_is_linked(_):
     return None if got == (True, True, True) else f"the text of MIT, both named, the text of Apache: {got}"
 
 
+def package_suggests_what_its_programs_can_use(_: str) -> str | None:
+    """Each library of Python that is none of the standard and none of ours."""
+    files = [file for folder in ("bridges", "examples") for file in (TOP / folder).rglob("*.py")]
+    imports = [node for file in files for node in ast.walk(ast.parse(file.read_text()))]
+    names = {alias.name for node in imports if isinstance(node, ast.Import) for alias in node.names}
+    names |= {node.module or "" for node in imports if isinstance(node, ast.ImportFrom)}
+    ours = {file.stem for file in files} | {"srcp_bridges"}
+    others = {name.partition(".")[0] for name in names} - sys.stdlib_module_names - ours
+    suggested = re.findall(r"^Suggests: (.*)$", (PACKAGING / "debian" / "control").read_text(), re.M)[0].split(", ")
+    missing = [name for name in others if not any(one.startswith(f"python3-{name}") for one in suggested)]
+    return f"not suggested: {missing}" if missing or len(others) < 3 else None
+
+
 def version_is_counted_once(program):
-    """The changes, the package, its changelog and the pages have one version; the program and its welcome line have
-    another."""
+    """The package, its changelog and the pages have one version; the program and its welcome line have another. The
+    changes may have one more, which is not released yet."""
     told = subprocess.run([program, "--version"], capture_output=True, text=True, timeout=SECONDS).stdout.split()
     welcome = WELCOME.decode().partition(";")[0].split()
     changes = (TOP / "CHANGELOG.md").read_text()
@@ -190,8 +260,22 @@ def version_is_counted_once(program):
     package = re.match(r"srcp-server \(([\d.]+-\d+)\) ", (PACKAGING / "changelog").read_text())[1]
     heads = re.findall(r"^## (.*)$", changes, re.M)
     named = set(re.findall(r"srcp-server_([\d.]+-\d+)_", readme + install))
-    got = welcome, "`srcp_server 1.0`" in changes, f"{heads[0]}-1", named
-    return None if told == welcome and got == (["srcp_server", "1.0"], True, package, {package}) else f"{told}, {got}"
+    front = re.findall(r"^Version ([\d.]+): \[what is new\]\(CHANGELOG.md\)\.$", readme, re.M)
+    got = welcome, "`srcp_server 1.0`" in changes, package in [f"{head}-1" for head in heads[:2]], named, front
+    want = ["srcp_server", "1.0"], True, True, {package}, [package.removesuffix("-1")]
+    return None if told == welcome and got == want else f"{told}, {got}"
+
+
+def changes_of_the_package_are_those_of_the_page(_):
+    """packaging/changelog says of each release what CHANGELOG.md says of it, and lacks none but one that is not
+    released yet."""
+    changes, text = releases((TOP / "CHANGELOG.md").read_text()), (PACKAGING / "changelog").read_text()
+    if list(changes)[-len(dates(text)):] != list(dates(text)) or len(changes) - len(dates(text)) not in (0, 1):
+        return f"the page has {list(changes)}, the package {list(dates(text))}"
+    if empty := [version for version, told in changes.items() if not told]:
+        return f"nothing is told of {empty}"
+    lines = zip(text.splitlines(), made(changes, dates(text)).splitlines(), strict=True)
+    return next((f"packaging/changelog has {ours!r}, want {want!r}" for ours, want in lines if ours != want), None)
 
 
 def words_of_help(program):
@@ -266,7 +350,9 @@ def manual_of_the_configuration_is_the_page(_):
 
 
 PACKAGE_CASES = (package_serves_from_what_it_holds, package_is_the_same_to_the_byte,
-                 package_that_is_purged_leaves_nothing, package_asks_for_the_c_library_of_the_program,
-                 program_takes_the_instructions_that_the_page_names, copyright_names_what_is_linked,
-                 version_is_counted_once, manual_and_completions_are_the_help, bash_completes_words,
-                 commands_of_the_manual_page, manual_of_the_configuration_is_the_page)
+                 package_that_is_purged_leaves_nothing, package_that_is_upgraded_tells_what_runs,
+                 package_asks_for_the_c_library_of_the_program, program_takes_the_instructions_that_the_page_names,
+                 copyright_names_what_is_linked, version_is_counted_once, changes_of_the_package_are_those_of_the_page,
+                 manual_and_completions_are_the_help, bash_completes_words, commands_are_named_and_completed,
+                 commands_of_the_manual_page, package_suggests_what_its_programs_can_use,
+                 manual_of_the_configuration_is_the_page)

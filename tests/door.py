@@ -40,18 +40,25 @@ def stamps_are_the_time(program):
 
 
 def server_that_rests_is_not_woken(program):
-    """Nothing happens, though a lock ends in an hour: the server sleeps until a client asks for something."""
+    """Nothing happens, though a lock ends in an hour: the server sleeps until a client asks for something. It takes no
+    processor: a server that does not wait at all goes to sleep no more often."""
     with served(program) as (port, server):
         throttle, panel = Client(port, "COMMAND"), Client(port, "INFO")
         throttle.asks("INIT 1 GL 3 N 1 28 5", "SET 1 LOCK GL 3 3600")
         time.sleep(0.3)
-        before = sleeps(server)
+        before, took = sleeps(server), processor_ticks(server)
         time.sleep(1)
-        woken = sleeps(server) - before
+        woken, took = sleeps(server) - before, processor_ticks(server) - took
         reply = throttle.asks("GET 1 POWER")
         panel.close()
-    got, want = (woken, reply), (0, "100 INFO 1 POWER OFF")
-    return None if got == want else f"how often it was woken in a second, and a reply: {got}"
+    got, want = (woken, took, reply), (0, 0, "100 INFO 1 POWER OFF")
+    return None if got == want else f"how often it was woken in a second, its ticks of a processor, and a reply: {got}"
+
+
+def processor_ticks(server):
+    """Returns how much of a processor the server took, in ticks of a hundredth of a second."""
+    user, system = Path(f"/proc/{server.pid}/stat").read_text().rpartition(")")[2].split()[11:13]
+    return int(user) + int(system)
 
 
 def sleeps(server):

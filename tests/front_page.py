@@ -6,13 +6,15 @@ import shutil
 import subprocess
 import tempfile
 import time
+from contextlib import suppress
 from pathlib import Path
+from queue import Empty
 from urllib.request import urlopen
 
 from bridge_tests import BRIDGE_CASES
 from page_tables import constants_of_the_code
-from pages import BLOCK, STAND_INS, TOP, follow, reader_of_a_page, take_bridges
-from serving import SECONDS, Client, TriedNothing, served, wait_for
+from pages import BLOCK, ENDED, SILENT, STAND_INS, TOP, Program, follow, reader_of_a_page, take_bridges
+from serving import SECONDS, Client, TriedNothing, free_port, served, wait_for
 
 README = TOP / "README.md"
 # A sentence, the constant of the code that its number is, and what it differs by from that.
@@ -42,20 +44,65 @@ def page_for_a_browser(port, *files):
     return told
 
 
+def blocks_of_commands():
+    """Returns the commands of each block of the page that is not run line by line, without what is said of them."""
+    return [[line.partition("  #")[0].rstrip() for line in text.splitlines()]
+            for kind, text in BLOCK.findall(README.read_text()) if kind == "sh"]
+
+
 def first_screen_of_the_readme(program):
-    """Its two commands serve the layout, and the page of it for a browser."""
+    """Its commands serve the layout, try it, and serve the page of it for a browser."""
     if not (TOP / "bridges" / "web.py").exists():
         raise TriedNothing("bridges/ is not here")
-    kind, commands = BLOCK.findall(README.read_text())[0]
+    serves, tries, *more = blocks_of_commands()[0]
     with reader_of_a_page(program) as reader:
         take_bridges(reader)
-        for command in commands.splitlines():
+        for command in (serves, *more):
             if fault := reader.steps(f"$ {reader.at_ports(command)}"):
                 return fault
         wait_for(reader.ports["8303"], reader.programs[-1].process)
         told = page_for_a_browser(reader.ports["8303"], "texts.js")
     is_page = told.startswith("<!doctype html>") and "STOP ALL" in told
-    return None if kind == "sh" and is_page else f"{kind}: the page is {told[:100]!r}"
+    return None if tries == "./test" and is_page else f"{tries}; the page is {told[:100]!r}"
+
+
+def stations_of_the_readme(program: str) -> str | None:
+    """Its commands put a locomotive on the track of a station at a cable and of one in the network. Both are simulated
+    here: the one by the page's own command, which prints what it is told."""
+    if not (TOP / "bridges" / "web.py").exists():
+        raise TriedNothing("bridges/ is not here")
+    at_a_cable, in_the_network, simulated = blocks_of_commands()[1]
+    with reader_of_a_page(program) as reader:
+        take_bridges(reader)
+        z21 = free_port()
+        there = (("ADDRESS", f"127.0.0.1:{z21}"), ("/dev/ttyACM0", '"$PWD/ttyACM0"'), ("z21.py", "z21.py --bus 9"))
+        commands = [blocks_of_commands()[0][0], simulated, f"python3 bridges/simulated_z21.py {z21}", at_a_cable,
+                    in_the_network]
+        for command in commands:
+            for on_the_page, here in there if "--station" in command else ():
+                command = command.replace(on_the_page, here)
+            if fault := reader.steps(f"$ {reader.at_ports(command)}"):
+                return fault
+        throttle = Client(reader.ports["4303"], "COMMAND")
+        _, *stations, dcc_ex, z21_driver = reader.programs
+        for bus, station, driver in ((1, stations[0], dcc_ex), (9, stations[1], z21_driver)):
+            while "server: joined" not in (line := driver.line()):
+                if line in (ENDED, SILENT):
+                    return f"{driver.command} says {line}"
+            throttle.asks(f"INIT {bus} GL 3 N 1 28 1")
+            drives = [f"SET {bus} POWER ON", f"SET {bus} GL 3 1 14 28"]
+            if not any(throttle.asks(*drives) and is_told_to_drive(station) for _ in range(SECONDS)):
+                return f"the station of bus {bus} is not told that the locomotive drives"
+    return None
+
+
+def is_told_to_drive(station: Program) -> bool:
+    """Returns whether the simulated station prints within a second that the locomotive drives."""
+    with suppress(Empty):
+        while not re.fullmatch(r"<t 3 [1-9]\d* 1>", station.lines.get(timeout=1)):
+            pass
+        return True
+    return False
 
 
 def what_the_units_started(reader):
@@ -165,6 +212,5 @@ def holder_of_a_port(program):
 
 
 FRONT_PAGE_CASES = (first_screen_of_the_readme, commands_of_the_readme, size_that_the_readme_tells,
-                    numbers_of_the_readme, time_of_the_first_build, readme_is_short,
-                    programs_that_the_readme_names, stamps_by_the_clock_of_the_start,
-                    holder_of_a_port)
+                    numbers_of_the_readme, time_of_the_first_build, readme_is_short, stations_of_the_readme,
+                    programs_that_the_readme_names, stamps_by_the_clock_of_the_start, holder_of_a_port)

@@ -13,7 +13,7 @@ from serving import TriedNothing
 TOP = Path(__file__).resolve().parent.parent
 PYTHON_FOLDERS = ("bridges", "examples", "packaging", "tests", "tools")
 # Folders that are made, and those whose files have the bytes that a case or an edit wants.
-LEFT_OUT = {".git", "out", "__pycache__", ".mypy_cache", "cases", "must-fail"}
+LEFT_OUT = {".git", "out", "__pycache__", ".mypy_cache", "cases", "must-fail", "refused", "laws-refuse"}
 NO_TEXT = {".png", ".deb", ".ico"}
 MINUTES = 60
 # How many columns a line may have, by the pattern of .editorconfig.

@@ -2,7 +2,9 @@
 import gzip
 import os
 import re
+import shlex
 import shutil
+import socket
 import subprocess
 import sys
 import tempfile
@@ -10,11 +12,12 @@ import time
 from contextlib import contextmanager
 from pathlib import Path
 
+from bridge_tests.test_entrance import WebInTheNetwork
 from debian_package import CONF, pack, package_of, with_packaging_tools
 from pages import STAND_INS, TOP, anchors_of, reader_of_a_page, take_bridges
-from serving import SECONDS, Client, TriedNothing, served
+from serving import SECONDS, Client, TriedNothing, free_port, served
 
-UNITS = "lib/systemd/system"
+UNITS = "usr/lib/systemd/system"
 
 
 @contextmanager
@@ -40,9 +43,25 @@ def commands_of_the_package(program):
                 return f"{command.name}: {options}, {told[:80]!r}"
             if not os.access(command, os.X_OK) or not re.search(rf"^\.SH NAME\n{command.name} - \w", page, re.M):
                 return f"{command.name}: {page[:200]!r}"
-    files = [file for part in ("examples", "bridges") for file in (TOP / part).glob("*.py")]
+    files = [file for part in ("examples", "bridges") for file in (TOP / part).glob("*.py") if os.access(file, os.X_OK)]
     programs = {f"srcp-{file.stem.replace('_', '-')}" for file in files}
     return None if {command.name for command in commands} == programs else f"got {commands}, want {programs}"
+
+
+@with_packaging_tools
+def programs_of_the_package_tell_its_version(program):
+    """All beside the server, those of bridges/ and of examples/. In a clone they tell the newest release."""
+    version = re.match(r"srcp-server \(([\d.]+-\d+)\) ", (TOP / "packaging" / "changelog").read_text())[1]
+    programs = [file for part in ("bridges", "examples") for file in (TOP / part).glob("*.py")
+                if os.access(file, os.X_OK)]
+    with installed(program) as root:
+        for here in programs:
+            for file in (root / "usr" / "bin" / f"srcp-{here.stem.replace('_', '-')}", here):
+                told = subprocess.run([sys.executable, file, "--version"], capture_output=True, text=True,
+                                      timeout=SECONDS, env=os.environ | {"PYTHONDONTWRITEBYTECODE": "1"}).stdout
+                if told != f"{file.name} {version}, for SRCP 0.8.4\n":
+                    return f"{file}: {told!r}"
+    return None if programs else "no programs"
 
 
 @with_packaging_tools
@@ -85,6 +104,20 @@ def units_of_the_package(program):
 
 
 @with_packaging_tools
+def page_on_phones_by_the_readme(program: str) -> str | None:
+    """The words and the file that it names are those of the page of installing, of the unit, and of the cases of a page
+    in the network. Its journal is that of the unit."""
+    readme = (TOP / "README.md").read_text().partition("\n## Installing\n")[2]
+    words, file, name = re.findall(r"`WORDS=(.*?)` in (/etc/default/srcp_bridge_(\w+)) ", readme)[0]
+    with installed(program) as root:
+        unit = (root / UNITS / "srcp_bridge@.service").read_text().replace("%i", name)
+    got = (values(unit, "EnvironmentFile"), f"`journalctl -t {values(unit, 'SyslogIdentifier')[0]}`" in readme,
+           f"\necho WORDS={words} | sudo tee {file}\n" in (TOP / "docs" / "install.md").read_text(),
+           " ".join(map(str, WebInTheNetwork.words)))
+    return None if got == ([f"-{file}"], True, True, words) else f"got {got}"
+
+
+@with_packaging_tools
 def reload_of_a_broken_configuration(program):
     """It fails, and the server runs on with all it holds. One that is right starts the server anew. A restart with a
     broken one fails too."""
@@ -112,6 +145,55 @@ def reload_of_a_broken_configuration(program):
     got = statuses, "unknown group" in broken.stderr, "unknown group" in restarted.stderr, kept, anew
     want = [1, 0, 1], True, True, "100 INFO 1 GL 3 1 0 0 0 0 0 0 0", "416 ERROR no data"
     return None if got == want else f"got {got}; {broken.stderr}{mended.stderr}"
+
+
+def start_post(unit, folder, main, config):
+    """Runs what the unit waits for at its start, with that number of its main process; returns its status."""
+    text = re.search(r"^ExecStartPost=((?:.*\\\n)*.*)$", unit, re.M)[1].replace("\\\n", " ")
+    for there, here in (("$$", "$"), ("%%", "%"), ("${MAINPID}", str(main)), (f"/{CONF}", str(config)),
+                        ("/usr/bin/srcp_server", f"{folder}/usr/bin/srcp_server")):
+        text = text.replace(there, here)
+    return subprocess.run(shlex.split(text), capture_output=True, timeout=SECONDS).returncode
+
+
+@with_packaging_tools
+def start_that_waits_for_the_server(program):
+    """It is done once the server listens, and not before. It fails if that has ended, also if another user listens at
+    its port."""
+    with installed(program) as root, tempfile.TemporaryDirectory() as folder:
+        unit = (root / UNITS / "srcp_server.service").read_text()
+        config = Path(folder, "layout.toml")
+        port, gone = free_port(), subprocess.Popen(["true"])
+        gone.wait()
+        config.write_text(f"port = {port}\nbus = []\n")
+        late = ["sh", "-c", 'sleep 1; exec "$0" serve --config "$1"', program, config]
+        with subprocess.Popen(late) as server, socket.socket() as client:
+            statuses = [start_post(unit, root, server.pid, config), client.connect_ex(("127.0.0.1", port))]
+            server.kill()
+        statuses.append(start_post(unit, root, gone.pid, config))
+        if os.geteuid() == 0 and os.path.exists("/usr/bin/python3"):
+            listens = f"import socket; s = socket.create_server(('127.0.0.1', {port})); print(flush=True); s.accept()"
+            with subprocess.Popen(["/usr/bin/python3", "-c", listens], user=65534, stdout=subprocess.PIPE) as other:
+                other.stdout.readline()
+                statuses.append(start_post(unit, root, gone.pid, config))
+                other.kill()
+    return None if statuses in ([0, 0, 1], [0, 0, 1, 1]) else f"statuses {statuses}"
+
+
+def plan_that_a_unit_does_not_see(_):
+    """A plan, or names, below /home: a unit says why they are not read. Elsewhere, and without systemd, the fault is
+    told as it is."""
+    unit, hidden, file = {"INVOCATION_ID": "1"}, "/home/nobody-of-this-name/plan.toml", "/etc/no-such-folder/plan.toml"
+    trials = [("web", "--plan"), ("withrottle", "--plan"), ("box", "--plan"), ("web", "--names"), ("log", "--names")]
+    without = {key: value for key, value in os.environ.items() if key not in unit}
+    for name, option in trials:
+        for path, environment, said in ((hidden, without | unit, "a unit does not see what is in /home (ProtectHome)"),
+                                        (hidden, without, "No such file"), (file, without | unit, "No such file")):
+            done = subprocess.run([sys.executable, TOP / "bridges" / f"{name}.py", option, path], env=environment,
+                                  capture_output=True, text=True, timeout=SECONDS)
+            if done.returncode != 2 or f"-- {option} {path}: " not in done.stderr or said not in done.stderr:
+                return f"{name}, {path}: {done}"
+    return None
 
 
 def bytes_of_sockets(port):
@@ -145,5 +227,8 @@ def memory_of_the_unit_holds_panels_that_do_not_read(program):
     return None if is_held else f"they take {taken >> 20} MiB of {allowed >> 20}"
 
 
-INSTALLED_CASES = (commands_of_the_package, pages_of_the_package_have_no_dead_link, units_of_the_package,
-                   reload_of_a_broken_configuration, memory_of_the_unit_holds_panels_that_do_not_read)
+INSTALLED_CASES = (commands_of_the_package, programs_of_the_package_tell_its_version,
+                   pages_of_the_package_have_no_dead_link, units_of_the_package, page_on_phones_by_the_readme,
+                   reload_of_a_broken_configuration,
+                   start_that_waits_for_the_server, plan_that_a_unit_does_not_see,
+                   memory_of_the_unit_holds_panels_that_do_not_read)

@@ -10,12 +10,14 @@ CRATES = TOP / "crates"
 CODE = {".rt", ".antt", ".py", ".c", ".h"}
 PLACEHOLDERS = {"F", "X", "NAME"}  # stand for any name, as srcp_X for any crate
 # What others define and pages name: words of Rattle, of Rust's library, of systems and of git.
-OTHERS = {"BTreeMap", "Drop", "IfErr", "IfSome", "Net", "OnErr", "SO_KEEPALIVE", "SO_LINGER", "SO_SNDBUF",
-          "TCP_USER_TIMEOUT", "VecDeque", "acl_file", "binutils", "circular_buffer", "console", "ensures",
-          "max_queued_messages", "nc", "requires", "result", "return", "ssh", "SHA256SUMS"}
+OTHERS = {"ArrayVec", "BTreeMap", "Drop", "IfErr", "IfSome", "Net", "OnErr", "SO_KEEPALIVE", "SO_LINGER",
+          "SO_SNDBUF", "TCP_INFO", "TCP_USER_TIMEOUT", "VecDeque", "acl_file", "array_vec_len", "binutils", "console",
+          "ensures",
+          "max_queued_messages", "nc", "push_back", "requires", "result", "return", "ssh", "try_push_back",
+          "SHA256SUMS"}
 # A single word of these may be of the protocol or of a system. It is a name of code only if it has the form of one.
 FOR_USERS = {TOP / "README.md", TOP / "bridges" / "README.md", *(
-    TOP / "docs" / f"{name}.md" for name in ("protocol", "configuration", "install", "replay"))}
+    TOP / "docs" / f"{name}.md" for name in ("protocol", "configuration", "install", "replay", "plan"))}
 # This tells of names that were.
 OF_THE_PAST = TOP / "CHANGELOG.md"
 CALL = r"([A-Za-z_]\w*)(?:\(.*\))?"
@@ -26,7 +28,8 @@ DEFINES = {".rt": r"(?:fn|struct|enum|trait|type|const|mod|section) (name)\b|^ +
                   r"^ +(name)(?:\(.*\))?,|^ +(name) \{$|(?:ensures|invariant)\*? (name) \{",
            ".antt": r"^ *(?:(?:abbrev|pub|data|record|type|module|open|private|constructor|unfolding|let|where) )*"
                     r"(name)[◌ ]*(?:[:{(\[]|$)|\b(?:data|record|module|section) (?:pub )?(name)\b",
-           ".py": r"^ *(?:def|class) (name)\b|^(name)\b[^=\n]* = ", ".c": r"\b(name)\(", ".h": r"\b(name)\("}
+           ".py": r"^ *(?:def|class) (name)\b|^(name)\b[^=\n]* = |^ +(name): [^=\n]+ = ",
+           ".c": r"\b(name)\(", ".h": r"\b(name)\("}
 # What begins a function or a definition, and what begins that or a type or a module of that name.
 CITES = r" *(?:(?:pub|pub\(\w+\)|ghost|abbrev|fn) )+"
 BEGINS = (r" *(?:(?:pub|pub\(\w+\)|ghost|abbrev|fn|struct|enum|trait|type|mod|record|data|module|section|class|def) )+"

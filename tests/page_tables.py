@@ -8,6 +8,16 @@ CRATES = TOP / "crates"
 KEYS = {"port": (1, "GREATEST_PORT", "DEFAULT_PORT"), "number": (1, "GREATEST_BUS"), "gl_max": (1, "GREATEST_GL"),
         "ga_max": (1, "GREATEST_GA"), "ga_ports": ("FEWEST_PORTS", "MOST_PORTS", "FEWEST_PORTS"),
         "fb_ports": (1, "GREATEST_FB")}
+# What the protocol's page says of the numbers of rows and commands, and the constant of each.
+OF_COMMANDS = (("`gl_max` ({} at most)", "GREATEST_GL"), ("`ga_max` ({} at most)", "GREATEST_GA"),
+               ("`fb_ports` ({} at most)", "GREATEST_FB"), ("({} bytes at most once", "LONGEST_TEXT"),
+               ("version 0 to {},", "GREATEST_VERSION"), ("steps 1 to {},", "MOST_STEPS"),
+               ("functions 0 to {};", "MOST_FUNCTIONS"), ("for `P 1 {}", "DEFAULT_STEPS"),
+               ("then up to {} functions", "MOST_FUNCTIONS"), ("-1, or 0 to {} ms", "MOST_MILLISECONDS"),
+               ("seconds 0 to {} ", "MOST_SECONDS"), ("session id, 0 to {} ", "GREATEST_ID"))
+BYTES_OF_A_TEXT = "bytes 33 to 126, 128 to 255"
+# Pages that tell what was, in which a name is no place to change.
+NEWS = {"CHANGELOG.md", "CONTRIBUTING.md", "packaging/changelog"}
 # The numbers that stand bare in the code of a file and are no limits, and what they are.
 NO_LIMITS = (
     ("srcp_core/specs/Handshake.antt", {4, 5}, "bytes of a version"),
@@ -18,7 +28,7 @@ NO_LIMITS = (
     ("srcp_info/src/scan.rt", {999, 1000}, "milliseconds of a second"),
     ("srcp_info/src/well_formed.rt", {127}, "byte"),
     ("srcp_info/src/words.rt", {3}, "digits of a code"),
-    ("srcp_info/src/write.rt", {3, 10}, "digits of a code, and the base"),
+    ("srcp_info/src/write.rt", {3}, "digits of a code"),
     ("srcp_interlock/specs/Hearing.antt", {2, 52, 53}, "port, and the bytes of digits"),
     ("srcp_peers/specs/Peers.antt", {2}, "calls"),
     ("srcp_peers/src/lingering.rt", {2}, "calls"),
@@ -29,6 +39,7 @@ NO_LIMITS = (
     ("srcp_script/specs/Script.antt", {16, 35}, "base, and the byte of #"),
     ("srcp_script/src/script/escape.rt", {2, 16}, "digits of a byte, and the base"),
     ("srcp_log/specs/Loads.antt", {3}, "calls"),
+    ("srcp_sockets/specs/Options.antt", {12}, "bytes of a value of the system behind a number"),
     ("srcp_sockets/src/mio_system.rt", {1_000_000}, "nanoseconds of a millisecond"),
     ("srcp_sockets/src/options.rt", {4, 16}, "bytes of a number and of a value of the system"),
     ("srcp_sockets/src/sockets/turns.rt", {3}, "calls"),
@@ -37,7 +48,7 @@ NO_LIMITS = (
     ("srcp_text/specs/Words.antt", {10, 48, 49}, "base, and the bytes of digits"),
     ("srcp_text/src/iter.rt", {3}, "bytes of a word of one byte between blanks"),
     ("srcp_text/src/number.rt", {10}, "base"),
-    ("srcp_text/src/put.rt", {10, 20, 100, 1000, 10_000}, "numbers of one digit more, and the most digits"),
+    ("srcp_text/src/put.rt", {10, 20, 100, 1000}, "numbers of one digit more, and the most digits"),
     ("srcp_text_tests/src/stamps.rt", {21}, "bytes of the longest stamp"),
 )
 # What is no code: comments, texts, and the constants and definitions that give a number its name.
@@ -139,7 +150,7 @@ def refusals_of_the_architecture_page(_):
         for text in quoted(refuses):
             if "/specs/" in text and not any(is_in((CRATES / text).read_text(), form) for form in forms):
                 return f"{limit}: none of {forms} in {text}"
-            is_case = (TOP / "tests" / "cases" / text).is_dir() or f"def {text.replace('-', '_')}(program)" in cases
+            is_case = (TOP / "tests" / "cases" / text).is_dir() or f"def {text.replace('-', '_')}(program" in cases
             if not (is_case or (CRATES / text).exists() or is_in(code, text.rstrip("!"))):
                 return f"{limit}: no {text}"
     return None
@@ -152,6 +163,34 @@ def limits_of_the_protocol_page(_):
     told = [(limit, number) for limit, value in rows for number in re.findall(r"\d+(?:,\d{3})*", value)]
     unknown = [(limit, number) for limit, number in told if number not in known]
     return f"no such limit: {unknown}" if unknown else None if len(told) > 8 else f"{len(rows)} rows"
+
+
+def numbers_of_the_commands(_: str) -> str | None:
+    """Each number in the protocol's tables of rows and of commands is what its constant is set to, and V is as great as
+    the page says. No other number stands there, but for the bytes of a text."""
+    values = {name: value for (_, name), value in constants_of_the_code().items()}
+    rows = rows_under("protocol.md", "The registry") + rows_under("protocol.md", "Commands")
+    told = " ".join(" ".join(row) + " " for row in rows).replace(BYTES_OF_A_TEXT, "")
+    for form, name in OF_COMMANDS:
+        if (sentence := form.format(values[name])) not in told:
+            return f"{name} is {values[name]}: the tables do not say {sentence!r}"
+        told = told.replace(sentence, "")
+    speed = f"V and Vmax are 0 to {values['GREATEST_SPEED']}, and"
+    if speed not in " ".join((TOP / "docs" / "protocol.md").read_text().split()):
+        return f"the page does not say {speed!r}"
+    others = re.findall(r"\d{2,}", told)
+    return f"numbers of no constant: {others}" if others else None
+
+
+def texts_of_the_power(_: str) -> str | None:
+    """The protocol's page has the texts that the programs of bridges/ give the power, and no others."""
+    page = (TOP / "docs" / "protocol.md").read_text().partition("| Text | What it says |")[2].partition("\n\n")[0]
+    code = (TOP / "bridges" / "srcp_bridges" / "rows.py").read_text()
+    names = dict(re.findall(r'^(\w+) = "([^"]+)"', code, re.M))
+    of_drivers = re.findall(r'(\w+)|"([^"]+)"', re.findall(r"^OF_DRIVERS = \((.*?)\)$", code, re.M | re.S)[0])
+    texts = {names[name] if name else text for name, text in of_drivers} | {names["STOP_ALL"]}
+    table = set(re.findall(r"^\| `([^`]*)`", page, re.M))
+    return None if table == texts and len(texts) > 5 else f"on the page {sorted(table)}, in the code {sorted(texts)}"
 
 
 def limits_of_the_configuration_page(_):
@@ -241,6 +280,63 @@ def calls_of_the_proofs_page(_):
     return None if public == set(listed) else f"the page has {sorted(listed)}, the code {sorted(public)}"
 
 
+def surface_of_the_decisions_page(_: str) -> str | None:
+    """Each crate, type, call and variant that the table says to be here stands in crates.txt or in the code."""
+    rows = rows_under("DECISIONS.md", "What differs from the first design's surface")
+    code = (CRATES.parent / "crates.txt").read_text() + "".join(
+        re.sub(NO_CODE[".rt"], "", file.read_text()) for file in CRATES.glob("*/src/**/*.rt"))
+    named = [word for row in rows for name in quoted(row[1]) for word in name.split("::")]
+    missing = [word for word in named if not is_in(code, word)]
+    if missing or len(named) < 30:
+        return f"{len(named)} names, of which the code has not {missing}"
+    return None
+
+
+def section_of_contributing(heading: str) -> str:
+    """Returns the part of CONTRIBUTING.md below a heading."""
+    return (TOP / "CONTRIBUTING.md").read_text().partition(f"\n## {heading}\n")[2].partition("\n## ")[0]
+
+
+def files_with(word: str, *patterns: str) -> set[str]:
+    """Returns the files of these patterns that have a word, by their paths from the top."""
+    files = [file for pattern in patterns for file in TOP.glob(pattern) if file.is_file() and file.suffix != ".png"]
+    return {str(file.relative_to(TOP)) for file in files if word in file.read_text()}
+
+
+def steps_to_add_a_station(_: str) -> str | None:
+    """They name what a driver has to give, the tables of cases, and each file that names the driver of the Z21, which
+    has each file of the steps."""
+    text = section_of_contributing("To add a station")
+    station = (TOP / "bridges/srcp_bridges/stations/station.py").read_text()
+    tables = (TOP / "tests/bridge_tests/stations.py").read_text()
+    given = re.findall(r"def (\w+)\([^)]*\)[^:]*:\n        raise NotImplementedError", station)
+    names = given + re.findall(r'^    ([A-Z_]+) = b""$', station, re.M) + re.findall(r"^class (\w+)\(St", tables, re.M)
+    places = files_with("z21", "*.md", "docs/*.md", "bridges/*", "examples/*", "tools/*.py", "packaging/*")
+    places |= files_with("test_z21", "tests/bridge_tests/__init__.py")
+    named = {path.replace("NAME", "z21") for text in quoted(text) for path in [text] if "/" in path or "." in path}
+    missing = [name for name in names if f"`{name}`" not in text] + sorted(places - named - NEWS)
+    gone = [path for path in named if not (TOP / path).exists()]
+    return f"not named: {missing}; not there: {gone}" if missing + gone or len(names) < 8 else None
+
+
+def steps_to_add_a_key(_: str) -> str | None:
+    """They name each file of code, of definitions and of pages that has the key fb_ports, and no file that is gone."""
+    text = section_of_contributing("To add a key of the configuration")
+    places = files_with("fb_ports", "crates/*/src/**/*.rt", "crates/*/specs/**/*.antt", "docs/*.md", "examples/*",
+                        "packaging/*", "tests/inputs.py", "tests/page_tables.py", "tests/tables.py")
+    named = set()
+    for step in re.split(r"^\d\. ", text, flags=re.M):
+        crate = "crates/" + (quoted(step) or [""])[0]
+        paths = [path for path in quoted(step) if "." in path]
+        named |= {path if (TOP / path).exists() else f"crates/{path}" if (CRATES / path).exists() else f"{crate}/{path}"
+                  for path in paths}
+    missing = sorted(place for place in places - named if "_tests/" not in place)
+    gone = sorted(path for path in named if not (TOP / path).exists())
+    return f"not named: {missing}; not there: {gone}" if missing + gone or len(places) < 15 else None
+
+
 PAGE_TABLE_CASES = (walk_of_the_architecture_page, limits_of_the_architecture_page, refusals_of_the_architecture_page,
-                    limits_of_the_protocol_page, limits_of_the_configuration_page, definitions_named_as_constants,
-                    limits_that_stand_once, calls_of_the_proofs_page)
+                    limits_of_the_protocol_page, numbers_of_the_commands, texts_of_the_power,
+                    limits_of_the_configuration_page, definitions_named_as_constants,
+                    limits_that_stand_once, calls_of_the_proofs_page, surface_of_the_decisions_page,
+                    steps_to_add_a_station, steps_to_add_a_key)

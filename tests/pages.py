@@ -1,9 +1,10 @@
 """The commands of the pages, run as they stand there: each prints what the page says, stamps aside.
 
 Every block ```console of a page is run, from the top of the page to its end, in a copy of the repository around the
-built program. In such a block `$` stands before a command, `>` before what is typed then, `^C` for Ctrl-C, and `..` for
-any lines. What else stands there is printed. A block without a command goes on with the program that runs still.
-Programs that tests cannot count on are stood in for by those of stand_ins/. `./test` is not run: it runs this.
+built program. In such a block `$` stands before a command, `>` before what is typed then (alone it is Enter), `^C` for
+Ctrl-C, and `..` for any lines. What else stands there is printed. A block without a command goes on with the program
+that runs still. Programs that tests cannot count on are stood in for by those of stand_ins/. `./test` is not run: it
+runs this.
 """
 import os
 import re
@@ -96,7 +97,7 @@ class Reader:
         """Returns what of a block is not as the page says, or None."""
         wanted = []
         for line in [self.at_ports(line) for line in block] + ["$"]:
-            is_step = line == "$" or line == "^C" or line.startswith(("$ ", "> "))
+            is_step = line in ("$", "^C", ">") or line.startswith(("$ ", "> "))
             if not is_step:
                 wanted.append(line)
                 continue
@@ -116,7 +117,7 @@ class Reader:
             for start, port in LISTENS.items():
                 if line.startswith(f"$ {start}") and not self.finds_port(self.ports[port]):
                     return f"nobody listens at {port}"
-        elif line.startswith("> "):
+        elif line.startswith(">"):
             self.programs[-1].types(line[2:])
         elif line == "^C":
             program = self.programs.pop()
@@ -256,7 +257,7 @@ def choices_that_cases_show(_):
     named = re.findall(r"^\|.* \| `([a-z0-9-]+)` \|$", (TOP / "docs" / "protocol.md").read_text(), re.M)
     functions = "".join(file.read_text() for file in (TOP / "tests").glob("*.py"))
     missing = [name for name in named if not (TOP / "tests" / "cases" / name).is_dir()
-               and f"def {name.replace('-', '_')}(program)" not in functions]
+               and f"def {name.replace('-', '_')}(program" not in functions]
     return f"no such case: {missing}" if missing else None if named else "no case is named"
 
 

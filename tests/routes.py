@@ -52,7 +52,8 @@ def event_of(draw, model):
     if what < 0.6:
         return f"100 INFO {OWN} GA {route} 0 1"
     if what < 0.9:
-        return "100 INFO {} FB {} {}".format(*draw.choice(SENSORS), draw.choice((0, 0, 1)))
+        sensor = "{} FB {}".format(*draw.choice(SENSORS))
+        return f"102 INFO {sensor}" if draw.random() < 0.1 else f"100 INFO {sensor} {draw.choice((0, 0, 1))}"
     return f"200 OK GO {draw.randint(1, 99)}" if what < 0.92 else draw.choice(NO_EVENTS)
 
 
@@ -60,7 +61,8 @@ def list_of(draw, model):
     """Yields the lines of a list, each with the order that follows in the model, or None. A session begins first, which
     most often knows that all sensors are 0."""
     known = ["100 INFO {} FB {} 0".format(*each) for each in SENSORS if draw.random() < 0.9]
-    for line in [f"200 OK GO {draw.randint(1, 99)}", *known]:
+    before = [event_of(draw, model) for _ in range(draw.choice((0, 3)))]
+    for line in [*before, f"200 OK GO {draw.randint(1, 99)}", *known]:
         yield f"0.000 {line}", model.take(f"0.000 {line}")
     for _ in range(EVENTS):
         line = f"{draw.randint(0, 10 ** 12)}.{draw.randint(0, 999):03} {event_of(draw, model)}"
@@ -119,4 +121,62 @@ def orders_come_at_once(program):
     return None if count > 5 and not rest and seconds < SECONDS else f"{count} orders, then {rest!r}, in {seconds} s"
 
 
-ROUTE_CASES = (routes_as_in_the_model, orders_come_at_once)
+PLAN = """bus = 9
+[[route]]
+number = 1
+turnouts = [[1, 1, 0]]
+signal = [2, 1, 2, 0]
+frees = [1, 5]
+[[route]]
+number = 2
+turnouts = [[1, 2, 0]]
+"""
+BEGUN = ["200 OK GO 2", *["200 OK"] * 3]
+SETS_1 = ["100 INFO 9 GA 1 1 1", *["200 OK"] * 4]
+ORDERS = ["SET 2 GA 1 0 1 250", "SET 9 FB 1 0", "SET 9 FB 2 0"]
+ORDERS_1 = ["SET 1 LOCK GA 1 0", "SET 1 GA 1 0 1 250", "SET 2 GA 1 2 1 250", "SET 9 FB 1 1"]
+ENDS_1 = ["SET 2 GA 1 0 1 250", "SET 9 FB 1 0", "TERM 1 LOCK GA 1"]
+
+
+def ordered(program, lines):
+    with plan_file(PLAN) as path:
+        done = subprocess.run([program, "interlock", "--plan", path], text=True, capture_output=True, timeout=SECONDS,
+                              input="".join(f"1.000 {line}\n" for line in lines))
+    return done.stdout.splitlines()
+
+
+def give_backs_are_carried_out(program):
+    """A route that is given back ends, and is set anew then, if it is asked for again before its stop was sent, while
+    the order of another route, or its own, waits."""
+    for given in (["100 INFO 1 FB 5 1", "100 INFO 1 FB 5 0"], ["100 INFO 9 GA 1 0 1"]):
+        again = [*given, "100 INFO 9 GA 1 1 1"]
+        got = ordered(program, [*BEGUN, *SETS_1, "100 INFO 9 GA 2 1 1", *again, *["200 OK"] * 10])
+        want = [*ORDERS, *ORDERS_1, "SET 1 LOCK GA 2 0", *ENDS_1, *ORDERS_1, "SET 1 GA 2 0 1 250", "SET 9 FB 2 1"]
+        if got != want:
+            return f"{given}, while another waits: {got}, want {want}"
+        got = ordered(program, [*BEGUN, *SETS_1[:4], *again, *["200 OK"] * 8])
+        if got != (want := [*ORDERS, *ORDERS_1, *ENDS_1, *ORDERS_1]):
+            return f"{given}, while its own order waits: {got}, want {want}"
+    return None
+
+
+def a_first_word_of_a_sensor_is_no_fall(program):
+    """Nothing was known of the sensor before, or not any more: then 0 gives no route back."""
+    for told in ([], ["100 INFO 1 FB 5 1", "102 INFO 1 FB 5"]):
+        got = ordered(program, [*BEGUN, *SETS_1, *told, "100 INFO 1 FB 5 0"])
+        if got != [*ORDERS, *ORDERS_1]:
+            return f"{told}: {got}"
+    return None
+
+
+def no_order_before_a_session(program):
+    """What comes before a command session began counts for nothing."""
+    before = ["200 OK", "414 ERROR device locked", *SETS_1, "100 INFO 1 FB 5 0", "200 OK GO"]
+    if got := ordered(program, before):
+        return f"{got}"
+    got = ordered(program, [*before, *BEGUN])
+    return None if got == ORDERS else f"then {got}"
+
+
+ROUTE_CASES = (routes_as_in_the_model, orders_come_at_once, give_backs_are_carried_out,
+               a_first_word_of_a_sensor_is_no_fall, no_order_before_a_session)

@@ -29,6 +29,7 @@ if sys.version_info < (3, 11):
 
 from arm64 import ARM64_CASES
 from bridge_tests import BRIDGE_CASES
+from client_modules import CLIENT_MODULE_CASES
 from clients import CLIENT_CASES
 from debian_package import PACKAGE_CASES
 from doctor import DOCTOR_CASES
@@ -43,6 +44,8 @@ from lint_and_status import LOOKING_CASES
 from names import NAME_CASES
 from pacing import PACING_CASES
 from pages import PAGE_CASES
+from plan_page import PLAN_PAGE_CASES
+from pythons import PYTHON_CASES
 from rates import RATE_CASES
 from releases import RELEASE_CASES
 from routes import ROUTE_CASES
@@ -50,7 +53,9 @@ from run_script import RUN_SCRIPT_CASES
 from safety import SAFETY_CASES
 from serving import SERVING_CASES, TriedNothing, expected_text
 from tables import TABLE_CASES
+from turns import TURN_CASES
 from vanishing import VANISHING_CASES
+from wrong_bodies import WRONG_BODY_CASES
 
 TESTS = Path(__file__).resolve().parent
 CASES = TESTS / "cases"
@@ -312,7 +317,8 @@ STREAM_CASES = (input_past_its_limit, input_at_its_limit, input_that_cannot_be_r
 ALL_CASES = (STREAM_CASES + TABLE_CASES + INPUT_CASES + SERVING_CASES + DOOR_CASES + FAULT_CASES + CLIENT_CASES
              + FRONT_PAGE_CASES + PAGE_CASES + NAME_CASES + RUN_SCRIPT_CASES + SAFETY_CASES + LOOKING_CASES
              + DOCTOR_CASES + HOUSE_CASES + PACKAGE_CASES + INSTALLED_CASES + RELEASE_CASES + ARM64_CASES
-             + LINGERING_CASES + VANISHING_CASES + PACING_CASES + RATE_CASES + ROUTE_CASES + BRIDGE_CASES)
+             + LINGERING_CASES + VANISHING_CASES + PACING_CASES + RATE_CASES + TURN_CASES + ROUTE_CASES
+             + WRONG_BODY_CASES + PYTHON_CASES + CLIENT_MODULE_CASES + PLAN_PAGE_CASES + BRIDGE_CASES)
 BESIDE = 10  # cases of bridges/ at once
 
 

@@ -210,7 +210,21 @@ def layout_is_learned_by_get(program):
     return None if got == want and want else f"learned {got!r}, checked {want!r}"
 
 
+def commands_sent_at_once(program: str) -> str | None:
+    """Behind GO, and in one write: each has its reply, in their order, and each is carried out."""
+    with served(program) as (port, _):
+        client = Client(port, None)
+        lines, want = ["GO", "INIT 1 GL 3 N 1 28 0"], ["200 OK GO 1", "200 OK"]
+        for speed in range(1, 101):
+            lines += [f"SET 1 GL 3 1 {speed} 100", "GET 1 GL 3", "HELLO"]
+            want += ["200 OK", f"100 INFO 1 GL 3 1 {speed} 100", "410 ERROR unknown command"]
+        client.socket.sendall("".join(f"{line}\n" for line in lines).encode())
+        got = [client.line().decode().strip().partition(" ")[2] for _ in lines]
+    return next((f"{line}: {one!r}, want {two!r}" for line, one, two in zip(lines, got, want) if one != two), None)
+
+
 SAFETY_CASES = (emergency_stop_without_functions, stop_of_a_locked_locomotive, second_init_stops_a_train,
                 session_that_ends_leaves_its_train_driving, lock_that_ends_leaves_its_train_driving,
                 light_that_undoes_a_stop, refused_command_is_told_to_nobody_else, turnout_lies_as_the_newest_stamp_says,
-                overrun_is_no_restart, panel_that_does_not_read_is_sent_the_past, layout_is_learned_by_get)
+                overrun_is_no_restart, panel_that_does_not_read_is_sent_the_past, layout_is_learned_by_get,
+                commands_sent_at_once)

@@ -2,11 +2,12 @@
 import re
 import socket
 import struct
+import threading
 import time
 from pathlib import Path
 
 from faults import Filter
-from pacing import sending_without_end
+from pacing import running, send_all, sending_without_end, shut
 from serving import SECONDS, Client, TriedNothing, served
 
 PANELS = 62
@@ -28,6 +29,10 @@ CHANGES_ON_ITS_WAY = 10_000
 # More than so many bytes its own system comes to hold for a panel that reads fast beside some sessions.
 GROWN = 1_000_000
 SENDERS = 8
+# A session that reads so many bytes a second through so small a window, of so many replies.
+READ_A_SECOND = 35_000
+WINDOW = 16_384
+ASKED = 200_000
 # The least, the usual and the most that a system of Linux holds for a socket.
 TCP_RMEM = Path("/proc/sys/net/ipv4/tcp_rmem")
 
@@ -88,6 +93,39 @@ def peers_that_vanish(program):
             time.sleep(1)
             left = {question for question in left if " ERROR " not in f" {other.asks(question)}"}
     return f"{LOST_SECONDS + SECONDS} s later it answers {sorted(left)}" if left else None
+
+
+def read_steadily(client, bytes_a_second, seconds):
+    """Reads so much a second for some seconds. Returns after how many seconds the connection is lost, or None."""
+    begun, count = time.monotonic(), 0
+    while (passed := time.monotonic() - begun) < seconds:
+        due = int(passed * bytes_a_second) - count
+        if due < bytes_a_second // 50:
+            time.sleep(0.01)
+            continue
+        try:
+            piece = client.socket.recv(due)
+        except OSError:
+            piece = b""
+        if not piece:
+            return passed
+        count += len(piece)
+    return None
+
+
+def session_that_reads_slowly_all_the_time(program):
+    """It is kept, and its lock with it, though it is owed more than the systems on the way hold."""
+    with served(program) as (port, _):
+        owner, other = Client(port, "COMMAND", WINDOW), Client(port, "COMMAND")
+        owner.asks("INIT 1 GL 3 N 1 28 4", "SET 1 LOCK GL 3 0")
+        sends = threading.Thread(target=send_all, args=(owner, b"GET 1 GL 3\n" * ASKED))
+        with running([sends]):
+            owner.socket.settimeout(SECONDS)
+            lost = read_steadily(owner, READ_A_SECOND, LOST_SECONDS + 8)
+            locked = " ERROR " not in other.asks("GET 1 LOCK GL 3")
+            shut([owner])
+    kept = "kept" if locked else "gone"
+    return None if lost is None and locked else f"after {lost} s it is lost, and its lock is {kept}"
 
 
 def is_gone(panel, asker):
@@ -191,5 +229,6 @@ def panel_that_was_closed_and_had_read_fast(program):
     return None if not fault and GROWN < len(told) < most else f"it is sent {len(told)} of {most} bytes, then {fault}"
 
 
-VANISHING_CASES = (panels_that_do_not_read, peers_that_vanish, panel_that_was_closed_and_does_not_read,
-                   panels_that_were_closed_and_read_late, panel_that_was_closed_and_had_read_fast)
+VANISHING_CASES = (panels_that_do_not_read, peers_that_vanish, session_that_reads_slowly_all_the_time,
+                   panel_that_was_closed_and_does_not_read, panels_that_were_closed_and_read_late,
+                   panel_that_was_closed_and_had_read_fast)

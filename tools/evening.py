@@ -1,8 +1,8 @@
-"""An evening of all programs of bridges/ beside one server, and an account of what was commanded.
+"""An evening of all programs of bridges/ beside one server and two stations, whose trains are watched.
 
-Throttles, a phone, a page, an MQTT client and a simulated station change things at random. Now and then a program is
-killed, or sleeps until its panel is closed; the station is reset, or its cable comes off; the server hangs, and once it
-is killed.
+Throttles, a phone, a page, an MQTT client and hand throttles change things at random, and two of them press STOP ALL.
+Meanwhile programs are killed or sleep, stations are reset, hang or lose their cable, lines lose what they carry, the
+Wi-Fi holds a phone's lines back, and the server hangs or is killed.
 """
 import contextlib
 import json
@@ -10,280 +10,338 @@ import os
 import random
 import re
 import signal
-import socket
 import subprocess
 import sys
+import threading
 import time
-from functools import partial
+from collections import Counter
 from pathlib import Path
 
 from bridge_tests import common, test_mqtt, test_web, test_withrottle
 from bridge_tests.common import stamped_lines, until
+from rails import ALL, LOSSES, POWER, REST, SPEED, Rails
+from wifi import WiFi
 
-DRIVES = re.compile(r"SET 1 GL (\d+) [01] [1-9]\d* ")  # V above 0
-POWERS = re.compile(r"SET 1 POWER ON\b")
-STARTS = re.compile(r"t \d+ [1-9]\d* [01]|1")  # what a station is told that moves a train, or turns its power on
-
-
-class Account:
-    """`driven` has the locomotives that somebody had drive since the last loss; `powered`: whether power was put on."""
-
-    def __init__(self):
-        self.driven = set()
-        self.taken = set()
-        self.powered = False
-
-    def lost(self):
-        """The station, its driver or the server was lost: all that was commanded before is over."""
-        self.driven.clear()
-        self.powered = False
-
-    def sends(self, command):
-        """A throttle or a page sends a command. It may be refused: then nothing drives by it."""
-        if found := DRIVES.match(command):
-            self.driven.add(int(found[1]))
-        self.powered |= bool(POWERS.match(command))
-
-    def sends_speed(self, locomotive, v):
-        """A topic, or a throttle at the station, is sent a speed."""
-        if v:
-            self.driven.add(locomotive)
-
-    def phone_says(self, line):
-        """A phone says a line: it drives all that it has taken, by one line."""
-        if found := re.match(r"M0\+[SL](\d+)", line):
-            self.taken.add(int(found[1]))
-        elif re.match(r"M0A\*<;>V[1-9]", line):
-            self.driven |= self.taken
-
-    def faults(self, station):
-        """Yields what moves at the station, and that nobody commanded."""
-        if moving := [cab for cab, (speed, _) in station.cabs.copy().items() if speed > 0 and cab not in self.driven]:
-            yield f"drives, and nobody commanded it since its last loss: {moving}"
-        if station.power and not self.powered:
-            yield "power is on, and nobody switched it on since its last loss"
-
-
-def starts(station, since):
-    """Returns what a station was told since a moment that moves a train or turns its power on."""
-    return [text for moment, text in station.log if moment > since and STARTS.fullmatch(text)]
-
-
-PACE = 0.01  # seconds between two changes
-SETTLED = 1.5  # seconds until what was sent is carried out
-REST = 3.0  # seconds after a loss, in which nothing may start
-AWAY = 12.0  # seconds for which the server hangs: trains stand within 8
+LAYOUT = "port = {port}\n" + "".join(
+    f'[[bus]]\nnumber = {bus}\ngroups = ["POWER", "GL", "GA", "FB"]\ngl_max = 9999\nga_max = 99\nfb_ports = 64\n'
+    for bus in (1, 2))
+PACE = 0.03  # seconds between two changes of one
+SENT = 1.0  # seconds until what was sent is carried out
+HANG = 12.0  # seconds for which the server hangs: trains stand within 8
+SILENT = 7.0  # seconds for which a station says nothing: its driver waits for 4
 ENDED = 1.0  # seconds until each pulse has ended
 QUIET = 4.0  # seconds until all has come to rest
-TROUBLE = 15.0  # seconds between two troubles
-LOCOMOTIVES = range(1, 21)
+TROUBLE = 4.0  # seconds between two troubles
+STOPS = 7.0  # seconds between two STOP ALLs
+NO_BUS = 9  # of which the layout has none
+LOCOMOTIVES = range(1, 13)
 TURNOUTS = range(1, 31)
-
-
-def moment():
-    time.sleep(2)
+KEYS = {"S3": 3, "S12": 12, "L300": 300}  # of a phone
 
 
 class Evening:
-    """A server, the programs beside it, a simulated station, and the clients of all."""
+    """A server, the programs beside it, two simulated stations, and clients that run until `ended` is set.
+
+    While `playing` is cleared they change nothing.
+    """
 
     def __init__(self, program, seed):
-        from simulated_station import Station
-        common.SERVER, self.draw = program, random.Random(seed)
-        self.server = common.Server()
-        self.broker = test_mqtt.Broker()
+        common.SERVER, self.seed, self.draw = program, seed, random.Random(seed)
+        self.began = time.monotonic()
+        self.server, self.broker = common.Server(LAYOUT), test_mqtt.Broker()
         folder = common.new_folder()
-        self.file, link = os.path.join(folder, "layout.srcp"), os.path.join(folder, "ttyACM0")
-        self.station = Station(link)
-        self.web = common.free_port()
-        self.phones = common.free_port()
-        self.words = {"dcc_ex": ["--station", link], "web": ["--web", self.web], "guard": [],
-                      "withrottle": ["--listen", self.phones], "keep": [self.file, "--rest", "0.2"],
+        self.file = os.path.join(folder, "layout.srcp")
+        self.web, self.phones = common.free_port(), common.free_port()
+        self.wifi, self.taken = WiFi(self.phones), set()
+        self.rails = {rails.bus: rails for rails in self.stations(folder)}
+        self.words = {"dcc_ex": self.rails[1].words, "z21": self.rails[2].words, "web": ["--web", self.web],
+                      "guard": [], "withrottle": ["--listen", self.phones], "keep": [self.file, "--rest", "0.2"],
                       "mqtt": ["--broker-port", self.broker.port, "--home-assistant"]}
-        self.programs = {}
-        self.count = 0
-        self.troubles = []
-        self.account = Account()
-        self.wrong = []
-        self.leaves = []
+        self.programs, self.troubles, self.count = {}, Counter(), Counter()
+        self.playing, self.ended = threading.Event(), threading.Event()
         for name in self.words:
             self.starts(name)
-        until(lambda: all("server: joined" in started.told() for started in self.programs.values()), "all have joined")
+        self.joined()
         self.panel_lines = os.path.join(folder, "panel")
         panel = [sys.executable, common.TOP / "examples" / "panel.py", "--port", str(self.server.port)]
         with open(self.panel_lines, "w") as out:
             self.panel = subprocess.Popen(panel, stdout=out)
-        self.display = test_mqtt.Client(self.broker.port, "srcp/online")
-        self.clients()
+        self.page = test_web.Events(self.web)
+
+    def stations(self, folder):
+        from simulated_station import Station
+        from simulated_z21 import Z21
+        link, port = os.path.join(folder, "ttyACM0"), common.free_port()
+        yield Rails(1, Station(link, seed=self.seed), "dcc_ex", ["--station", link], self.tells)
+        yield Rails(2, Z21(port, loses=0, seed=self.seed), "z21", ["--station", f"127.0.0.1:{port}"], self.tells)
+
+    def tells(self, text):
+        print(f"{time.monotonic() - self.began:8.3f} {text}", flush=True)
 
     def starts(self, name):
         self.programs[name] = common.program(name + ".py", *self.words[name], "--port", self.server.port)
 
-    def clients(self):
-        """Begins all clients anew, also on a machine on which that takes its time."""
-        until(self.begin_clients, "all clients are served", 300)
-
-    def begin_clients(self):
-        for leave in self.leaves:
-            with contextlib.suppress(OSError):
-                leave()
-        try:
-            self.throttle = common.Session(self.server.port)
-            self.page, self.phone = test_web.Events(self.web), test_withrottle.Phone(self.phones)
-        except OSError:
-            return False
-        self.account.taken.clear()
-        phone_leaves = partial(self.phone.socket.shutdown, socket.SHUT_RDWR)
-        self.leaves = [self.throttle.close, self.page.leaves, phone_leaves]
-        return True
-
-    # ---- changes
-
-    def command(self):
-        """A command for a throttle or a page."""
-        draw = self.draw
-        loco = self.draw.choice(LOCOMOTIVES)
-        turnout = self.draw.choice(TURNOUTS)
-        functions = " ".join(draw.choice("01") for _ in range(draw.randint(0, 5)))
-        commands = [f"INIT 1 GL {loco} N 1 {draw.choice([28, 126])} {draw.choice([5, 9])}",
-                    f"SET 1 GL {loco} {draw.choice([0, 1, 1, 2])} {draw.randint(0, 28)} 28 {functions}",
-                    f"TERM 1 GL {loco}", f"INIT 1 GA {turnout} N", f"SET 1 GA {turnout} {draw.randint(0, 1)} 1 50",
-                    f"TERM 1 GA {turnout}", f"SET 1 POWER {draw.choice(['ON', 'OFF'])} by hand",
-                    f"SET 1 FB {draw.randint(17, 32)} 1", f"SET 1 LOCK GL {loco} 1"]
-        return draw.choices(commands, [3, 20, 1, 3, 10, 1, 1, 5, 1])[0].rstrip()
-
-    def line(self):
-        """A line of a phone."""
-        draw, key = self.draw, self.draw.choice(["S3", "S30", "L300"])
-        return draw.choice([f"M0+{key}<;>{key}", f"M0A*<;>V{draw.randint(0, 126)}", f"M0-{key}<;>r",
-                            f"M0A{key}<;>F1{draw.randint(0, 9)}", f"PTA2{draw.choice(TURNOUTS)}"])
-
-    def change(self):
-        """One change, by one of those that make them; a reply that refuses it is as good as another."""
-        draw, account = self.draw, self.account
-        who = draw.choices(["throttle", "page", "phone", "display", "station", "hand"], [20, 6, 6, 6, 4, 1])[0]
-        if who in ("throttle", "page"):
-            account.sends(command := self.command())
-            (self.throttle.ask if who == "throttle" else self.page.post)(command)
-        elif who == "phone":
-            account.phone_says(line := self.line())
-            self.phone.send(line)
-        elif who == "display":
-            account.sends_speed(loco := draw.choice(LOCOMOTIVES), v := draw.randint(0, 28))
-            self.display.client.publish(f"srcp/1/GL/{loco}/set", json.dumps({"v": v, "v_max": 28}))
-        elif who == "hand" and "INFO" in self.throttle.ask(f"GET 1 GL {(loco := draw.choice(LOCOMOTIVES))}"):
-            account.sends_speed(loco, v := draw.randint(0, 28))
-            self.station.hand(loco, v, draw.randint(0, 1))
-        else:
-            self.station.sensor(draw.randint(1, 16), draw.randint(0, 1))
-        self.count += 1
-
-    # ---- troubles
-
-    def notes(self, what):
-        """Tells of a trouble as it comes."""
-        self.troubles.append(what)
-        print(f"after {self.count} changes: {what}", flush=True)
-
-    def trouble(self):
-        """Something fails: a program, the station, its cable, or the server."""
-        name = self.draw.choice(list(self.programs))
-        kinds = [lambda: self.killed(name), lambda: self.slept(name), self.reset, self.cable, self.hung]
-        self.settle()
-        self.draw.choices(kinds, [4, 4, 1, 1, 1])[0]()
-        self.clients()
-
-    def settle(self):
-        """Waits until what was sent is carried out. Then nothing moves that nobody commanded."""
-        time.sleep(SETTLED)
-        self.wrong += [f"before trouble {len(self.troubles)}: {fault}" for fault in self.account.faults(self.station)]
-
-    def loses(self, what, *acts):
-        """A loss, of which nothing may start by itself, and after which nothing may move."""
-        self.notes(what)
-        self.account.lost()
-        begin = time.monotonic()
-        for act in acts:
-            act()
-        time.sleep(REST)
-        if told := starts(self.station, begin):
-            self.wrong.append(f"trouble {len(self.troubles)}, {what}, and the station was told {told}")
-        self.wrong += [f"trouble {len(self.troubles)}, {what}: {fault}" for fault in self.account.faults(self.station)]
-
     def joined(self):
         until(lambda: all("server: joined" in started.told() for started in self.programs.values()), "all have joined")
 
-    def killed(self, name):
-        def again():
-            self.programs[name].end(signal.SIGKILL)
-            self.starts(name)
+    # ---- changes
 
-        if name == "dcc_ex":
-            return self.loses("dcc_ex killed", again, self.joined)
-        self.notes(f"{name} killed")
-        again()
-        self.joined()
+    def command(self, draw):
+        """A command for a throttle or a page."""
+        bus, loco, turnout = draw.choice((1, 2)), draw.choice(LOCOMOTIVES), draw.choice(TURNOUTS)
+        functions = " ".join(draw.choice("01") for _ in range(draw.randint(0, 5)))
+        commands = [f"INIT {bus} GL {loco} N 1 {draw.choice([28, 126])} {draw.choice([5, 9])}",
+                    f"SET {bus} GL {loco} {draw.choice([0, 1, 1, 2])} {draw.choice([0, draw.randint(1, 28)])} 28 "
+                    f"{functions}", f"TERM {bus} GL {loco}", f"INIT 1 GA {turnout} N",
+                    f"SET 1 GA {turnout} {draw.randint(0, 1)} 1 50", f"TERM 1 GA {turnout}",
+                    f"SET {bus} POWER {draw.choice(['ON', 'ON', 'OFF'])} by hand",
+                    f"SET 1 FB {draw.randint(17, 32)} 1", f"SET {bus} LOCK GL {loco} 1"]
+        return draw.choices(commands, [3, 20, 1, 3, 5, 1, 2, 5, 1])[0].rstrip()
+
+    def sends(self, send, command):
+        """Sends a command, and notes it at the rails that it is for."""
+        if found := SPEED.match(command):
+            bus, loco, mode, v = map(int, found.groups())
+            noted = self.rails[bus].commanded(loco, v > 0 and mode < 2)
+        elif found := POWER.match(command):
+            noted = self.rails[int(found[1])].commanded(ALL, found[2] == "ON")
+        else:
+            noted = contextlib.nullcontext()
+        with noted:
+            send(command)
+
+    def throttle(self, draw):
+        session = common.Session(self.server.port)
+        with contextlib.closing(session):
+            while self.may_go_on():
+                self.sends(session.ask, self.command(draw))
+
+    def pages(self, draw):
+        page = test_web.Events(self.web)
+        while self.may_go_on():
+            self.sends(page.post, self.command(draw))
+
+    def phone(self, draw):
+        """A phone drives all that it has taken, by one line. Who loses its phone, drives nothing."""
+        phone = test_withrottle.Phone(self.wifi.port, watched=True)
+        self.taken.clear()
+        while self.may_go_on():
+            key, v = draw.choice(list(KEYS)), draw.choice([0, draw.randint(1, 126)])
+            line = draw.choice([f"M0+{key}<;>{key}", f"M0A*<;>V{v}", f"M0A*<;>V{v}", f"M0-{key}<;>r", "M0A*<;>X",
+                                f"M0A{key}<;>F1{draw.randint(0, 9)}", f"PTA2{draw.choice(TURNOUTS)}", "*"])
+            self.taken |= {KEYS[key]} if line.startswith("M0+") else set()
+            with contextlib.ExitStack() as noted:
+                for loco in self.taken if "A*" in line else ():
+                    noted.enter_context(self.rails[1].commanded(loco, "V" in line and v > 0, has_reply=False))
+                phone.send(line)
+            if "END" in phone.lines:
+                return
+
+    def display(self, draw):
+        """An MQTT client. A command waits in a queue there, so it is noted until another one behind it is refused."""
+        client, mark = test_mqtt.Client(self.broker.port, "srcp/online", "srcp/error"), 0
+        try:
+            while self.may_go_on():
+                bus, loco, v = draw.choice((1, 2)), draw.choice(LOCOMOTIVES), draw.choice([0, draw.randint(1, 28)])
+                with self.rails[bus].commanded(loco, v > 0, has_reply=False):
+                    client.client.publish(f"srcp/{bus}/GL/{loco}/set", json.dumps({"v": v, "v_max": 28}))
+                    self.is_through(client, mark := (mark + 1) % 60000)
+        finally:
+            client.close()
+
+    def is_through(self, client, mark):
+        """Waits until all is carried out that a client of the broker has sent, or mqtt.py is gone."""
+        client.client.publish(f"srcp/{NO_BUS}/GL/1/set", json.dumps({"v": mark, "v_max": 60000}))
+        ends = time.monotonic() + HANG
+        while time.monotonic() < ends and client.topics.get("srcp/online") != "offline":
+            if any(f'"v\\": {mark},' in told for told in client.came.get("srcp/error", [])[-100:]):
+                return
+            time.sleep(PACE / 3)
+
+    def hand(self, draw):
+        """Throttles at the stations, and what happens there. They drive what the registry has: a Z21 tells once of what
+        it has not, and a driver that was away then cannot know of that. Who has one stand that stands tells nobody."""
+        with contextlib.closing(common.Session(self.server.port)) as session:
+            while self.may_go_on():
+                rails, loco = self.rails[draw.choice((1, 2))], draw.choice(LOCOMOTIVES)
+                v, chance = draw.choice((-1, 0, 30, 90)), draw.random()
+                if chance < 0.002:
+                    stop = rails.watch.stops_all()
+                    rails.station.acts()["stop"]()
+                    rails.watch.stopped(stop, is_heard=False, has_reply=False)
+                    self.count["stop buttons of hands"] += 1
+                elif chance > 0.2:
+                    rails.station.sensor(draw.randint(1, 16), draw.randint(0, 1))
+                elif " INFO " in session.ask(f"GET {rails.bus} GL {loco}"):
+                    is_told = v > 0 or rails.station.cabs.get(loco, (0, 1))[0] > 0
+                    with rails.commanded(loco, v > 0, has_reply=False) if is_told else contextlib.nullcontext():
+                        rails.station.hand(loco, v, draw.randint(0, 1))
+
+    def stopper(self, draw):
+        """A page, and a topic, stop all; in a moment somebody switches the power on again."""
+        page, client = test_web.Events(self.web), test_mqtt.Client(self.broker.port, "srcp/online")
+        try:
+            while self.may_go_on(STOPS):
+                noted = [(rails, rails.watch.stops_all()) for rails in self.rails.values()]
+                reply = ""
+                try:
+                    if draw.random() < 0.8:
+                        reply = page.post("", "/stop")
+                    else:
+                        client.client.publish("srcp/stop/set", "x")
+                        time.sleep(0.3)
+                finally:
+                    for rails, stop in noted:
+                        rails.stopped(stop, reply)
+                self.count[f"STOP ALL: {reply[:3] or 'by MQTT'}"] += 1
+                time.sleep(draw.choice((0, 0.5, 2)))
+                for bus in self.rails:
+                    self.sends(page.post, f"SET {bus} POWER ON")
+        finally:
+            client.close()
+
+    def may_go_on(self, seconds=PACE):
+        """Waits a while, and as long as nothing is to change; returns whether the evening goes on."""
+        self.ended.wait(seconds)
+        self.playing.wait()
+        self.count["changes"] += 1
+        return not self.ended.is_set()
+
+    def plays(self, act):
+        """Begins a client anew and anew, as its program or the server goes."""
+        draw = random.Random(f"{self.seed} {act.__name__}")
+        while not self.ended.is_set():
+            with contextlib.suppress(OSError, AssertionError):
+                act(draw)
+            self.ended.wait(0.5)
+
+    # ---- troubles
+
+    def killed(self, name):
+        with contextlib.ExitStack() as losses:
+            for rails in self.rails.values():
+                if rails.program == name:
+                    losses.enter_context(rails.lost(f"{name} killed"))
+            self.programs[name].end(signal.SIGKILL)
+            time.sleep(self.draw.choice((0, 2)))
+            self.starts(name)
+            self.joined()
+            time.sleep(1)
 
     def slept(self, name):
-        self.notes(f"{name} slept")
-        self.programs[name].send(signal.SIGSTOP)
-        try:
-            self.throttle.flood(["SET 1 FB 17 1"] * 100000)
-        finally:
-            self.programs[name].send(signal.SIGCONT)
+        with contextlib.ExitStack() as troubles:
+            for rails in self.rails.values():
+                if rails.program == name or name not in ("dcc_ex", "z21"):
+                    troubles.enter_context(rails.trouble())
+            self.programs[name].send(signal.SIGSTOP)
+            try:
+                time.sleep(self.draw.choice((0.5, 3, 12)))
+            finally:
+                self.programs[name].send(signal.SIGCONT)
 
-    def begins(self, act):
-        """The station begins anew; turnouts lie as they lay."""
-        lies = self.station.turnouts
+    def reset(self, rails):
+        lies = rails.station.turnouts
+        with rails.lost("reset"):
+            rails.station.restart()
+            rails.station.turnouts = lies | rails.station.turnouts
+            time.sleep(3)
+
+    def cable(self, rails):
+        with rails.lost("cable off"):
+            rails.station.unplug()
+            time.sleep(SILENT if rails.is_z21 else 2)
+            rails.station.plug()
+            time.sleep(3)
+
+    def hung(self, rails):
+        with rails.lost("hang"):
+            rails.station.hang()
+            time.sleep(SILENT)
+            rails.station.hang()
+            time.sleep(2)
+
+    def server_lost(self, what, act):
+        with self.rails[1].lost(what), self.rails[2].lost(what):
+            act()
+            time.sleep(3)
+
+    def server_hung(self):
+        self.server.process.send(signal.SIGSTOP)
+        time.sleep(HANG)
+        self.server.process.send(signal.SIGCONT)
+
+    def wifi_away(self):
+        """A phone's lines are held back. Those that it drives stand meanwhile, since its heartbeats stay out."""
+        self.wifi.away()
+        time.sleep(SENT)
+        self.playing.clear()
+        time.sleep(HANG)
+        with contextlib.ExitStack() as stops:
+            for loco in self.taken:
+                stops.enter_context(self.rails[1].commanded(loco, False))
+        time.sleep(SENT)
+        self.wifi.back()
+        time.sleep(REST)
+        self.playing.set()
+
+    def weather(self, rails):
+        rails.station.loses = self.draw.choice(LOSSES)
+        self.tells(f"{rails.watch.name} loses {rails.station.loses:.0%}")
+
+    def trouble(self):
+        name, rails = self.draw.choice(list(self.programs)), self.rails[self.draw.choice((1, 2))]
+        driver = self.draw.choice(("dcc_ex", "z21"))
+        kinds = {f"{name} killed": lambda: self.killed(name), f"{name} slept": lambda: self.slept(name),
+                 f"{driver} is killed": lambda: self.killed(driver), f"{driver} sleeps": lambda: self.slept(driver),
+                 f"{rails.program}'s station reset": lambda: self.reset(rails),
+                 f"{rails.program}'s cable": lambda: self.cable(rails),
+                 f"{rails.program}'s station hung": lambda: self.hung(rails),
+                 "server hung": lambda: self.server_lost("server hung", self.server_hung),
+                 "server killed": lambda: self.server_lost("server killed", self.server.restart),
+                 f"{rails.program}'s weather": lambda: self.weather(rails), "Wi-Fi away": self.wifi_away}
+        what, = self.draw.choices(list(kinds), [4, 4, 2, 2, 2, 2, 2, 1, 1, 4, 3])
+        self.tells(what)
+        self.troubles[what.rpartition(" ")[2]] += 1
+        if self.draw.random() < 0.5 or what == "Wi-Fi away":
+            kinds[what]()
+        else:
+            self.in_silence(kinds[what])
+
+    def in_silence(self, act):
+        """Nobody commands anything meanwhile. So whatever starts, starts by itself."""
+        self.playing.clear()
+        time.sleep(SENT)
         act()
-        self.station.turnouts = lies | self.station.turnouts
+        time.sleep(REST)
+        self.playing.set()
 
-    def reset(self):
-        self.loses("the station reset", partial(self.begins, self.station.restart))
-
-    def cable(self):
-        self.loses("the cable off", self.station.unplug, moment, partial(self.begins, self.station.open),
-                   moment)
-
-    def hung(self):
-        send = self.server.process.send
-        self.loses("the server hung", lambda: send(signal.SIGSTOP), lambda: time.sleep(AWAY),
-                   lambda: send(signal.SIGCONT), moment)
-
-    def restarts(self):
-        self.settle()
-        self.loses("the server killed", self.server.restart, moment)
-        self.clients()
+    def look(self):
+        for rails in self.rails.values():
+            rails.look()
 
     def run(self, seconds):
-        now = time.monotonic()
-        end = now + seconds
-        next_trouble = now + TROUBLE
-        restarts = now + seconds / 2
+        acts = (self.throttle, self.throttle, self.pages, self.phone, self.display, self.hand, self.stopper)
+        clients = [threading.Thread(target=self.plays, args=(act,), daemon=True) for act in acts]
+        self.playing.set()
+        for client in clients:
+            client.start()
+        end = time.monotonic() + seconds
         while time.monotonic() < end:
-            try:
-                self.change()
-                if time.monotonic() > next_trouble:
-                    self.trouble()
-                    next_trouble = time.monotonic() + TROUBLE
-                if restarts and time.monotonic() > restarts:
-                    restarts = None
-                    self.restarts()
-            except OSError:
-                self.clients()
-            time.sleep(PACE)
-        try:
-            self.throw_each()
-        except OSError:
-            self.clients()
-            self.throw_each()
+            self.ended.wait(TROUBLE)
+            self.look()
+            self.trouble()
+        self.playing.clear()
+        self.throw_each()
+        time.sleep(QUIET)
+        self.look()
 
     def throw_each(self):
         """Throws each turnout once more, behind all pulses. A panel that joins later cannot know how one lies of which
         an older pulse ended last."""
         time.sleep(ENDED)
-        for turnout in TURNOUTS:
-            self.throttle.ask(f"SET 1 GA {turnout} 0 1 50")
+        with contextlib.closing(common.Session(self.server.port)) as throttle:
+            for turnout in TURNOUTS:
+                throttle.ask(f"SET 1 GA {turnout} 0 1 50")
 
     # ---- what all say at the end
 
@@ -292,53 +350,38 @@ class Evening:
         from srcp_bridges.rows import parse
         return dict(parse(line) for line in stamped_lines(self.server.port))
 
-    def track(self, rows):
-        """Returns what the station should know."""
-        from srcp_bridges.rows import position
-        cabs = {}
-        functions = set()
-        turnouts = {}
-        for (bus, group, address, part), row in rows.items():
-            if (bus, group, part) == (1, "GL", "does"):
-                most = row.v_max or rows[bus, group, address, "is"].steps
-                cabs[address] = min(126, -(-row.v * 126 // most)) if address in self.account.driven else 0
-                functions |= {(address, number) for number, value in enumerate(row.functions) if value}
-            elif (bus, group, part) == (1, "GA", "is") and (port := position(rows, 1, address)) is not None:
-                turnouts[address] = int(port > 0)
-        return int(rows[1, "POWER", 0, "does"].on), cabs, functions, turnouts
-
     def differences(self):
         """Yields what does not say what a fresh panel is sent."""
         import keep
         rows = self.stamped()
-        power, cabs, functions, turnouts = self.track(rows)
-        station = self.station
-        if (station.power, {key for key, on in station.functions.copy().items() if on}) != (power, functions):
-            yield f"the station's power or functions: {station.power} {power}"
-        if wrong := [cab for cab, speed in cabs.items() if max(0, station.cabs.get(cab, (0,))[0]) != speed]:
-            yield f"the station's speeds: {[(cab, station.cabs.get(cab), cabs[cab]) for cab in wrong]}"
-        if driving := {cab for cab, (speed, _) in station.cabs.items() if speed > 0 and cab not in cabs}:
-            yield f"the station drives what is gone: {driving}"
-        if wrong := {turnout for turnout, port in turnouts.items() if station.turnouts.get(turnout) != port}:
-            yield f"the station's turnouts: {wrong}"
-        yield from self.account.faults(station)
-        if station.faults:
-            yield f"the station refused {station.faults[:3]}"
+        for rails in self.rails.values():
+            for difference in rails.differences(rows):
+                yield f"{rails.watch.name}: {difference}"
+        yield from self.turnouts(rows)
         if "END" in self.page.events:  # a browser joins again
-            self.notes("the page was closed")
             self.page = test_web.Events(self.web)
         if not test_web.WebCase.same(self, self.page):
             yield "the page's rows"
         kept = Path(self.file).read_text("latin-1").split("\n")[:-1]
-        ways = {int(line.split()[3]): int(line.split()[4]) for line in kept if line.startswith("SET 1 GL ")}
-        if kept != keep.commands_of(rows, False, lambda _, address: ways.get(address)):  # no row tells it after a stop
-            yield "the file of keep.py"
+        ways = {tuple(line.split()[1:4:2]): int(line.split()[4]) for line in kept if re.match(r"SET \d+ GL ", line)}
+        wanted = keep.commands_of(rows, False, lambda *which: ways.get(tuple(map(str, which))))  # no row has a way
+        if kept != wanted:
+            yield f"the file of keep.py: {sorted(set(kept) ^ set(wanted))[:6]}"
         topics = {topic: payload for topic, payload in test_mqtt.retained(self.broker.port).items()
                   if topic.startswith("srcp/") and not topic.endswith(("/position", "/online"))}
         shown, wanted = test_mqtt.loaded(topics), test_mqtt.registry(self.server.port)
         if wrong := [topic for topic in shown.keys() | wanted.keys() if shown.get(topic) != wanted.get(topic)]:
             yield f"the retained topics: {[(topic, shown.get(topic), wanted.get(topic)) for topic in wrong][:5]}"
         yield from self.panel_differences(rows)
+
+    def turnouts(self, rows):
+        """Yields which turnouts lie otherwise. A station reports none of them: one that lost a command is left out."""
+        from srcp_bridges.rows import position
+        lies = self.rails[1].station.turnouts
+        wrong = [turnout for turnout in TURNOUTS if (port := position(rows, 1, turnout)) is not None
+                 and lies.get(turnout) != int(port > 0)]
+        if wrong and not self.rails[1].station.trouble.spoilt:
+            yield f"turnouts {wrong}"
 
     def panel_differences(self, rows):
         text = Path(self.panel_lines).read_text("latin-1")
@@ -347,9 +390,9 @@ class Evening:
             yield f"examples/panel.py holds {counted} rows, a fresh panel {len(rows)}"
 
     def ends(self):
+        self.ended.set()
         for started in self.programs.values():
             started.end(signal.SIGKILL)
         self.panel.kill()
-        self.display.close()
         self.broker.stop()
         self.server.stop()

@@ -1,11 +1,12 @@
 #!/usr/bin/env python3
 """gate_times.py COMMAND [WORD ..]: runs a gate, as ./test, and prints the processor minutes of each crate's proof, its
-tests and its must-fail edits, as a table for docs/gate.md.
+tests and its edits, as a table for docs/gate.md.
 
 Each second it looks at the provers that run below the command. The last row has all that the command used, the cases
 and the builds included. It prints the table to standard error once the command has ended, and ends with its status.
 """
 import os
+import re
 import resource
 import subprocess
 import sys
@@ -17,8 +18,9 @@ TICKS = os.sysconf("SC_CLK_TCK")
 STAGES = ("proof", "tests", "edits")
 
 
-def stage_of(words, folder):
-    if "rt-edit-" in folder:
+def stage_of(words: list[str], folder: str) -> str:
+    """Returns what a prover in a folder works at. Edits are tried in folders of `rt ci` and of tools/refused.py."""
+    if re.search(r"/rt-edit-|/srcp_refused_[^/]+/[^/]+/crates/", folder):
         return "edits"
     return "tests" if "--test" in words else "proof"
 
@@ -57,7 +59,7 @@ def table(seconds_of, wall):
     sums = defaultdict(float)
     for (crate, stage), seconds in seconds_of.values():
         sums[crate, stage] += seconds / 60
-    yield "| Crate | Proof | Tests | Must-fail edits | In all |\n|---|---|---|---|---|"
+    yield "| Crate | Proof | Tests | Edits | In all |\n|---|---|---|---|---|"
     for crate in crates:
         stages = [sums[crate, stage] for stage in STAGES]
         yield f"| `{crate}` | " + " | ".join(f"{minutes:.1f}" for minutes in [*stages, sum(stages)]) + " |"

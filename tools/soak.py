@@ -10,10 +10,11 @@ closed of each load, and fails if one was. On a busy machine a panel may stand s
 for it. - examples/panel.py, beside a session that sends 1,000,000 commands in one go. - For SECONDS, 60 if not given:
 31 panels that read, beside 32 sessions. - As long: a panel that pauses once for 150 ms and one that pauses for 50 ms
 each second, beside one session and beside 32.
-bridges [SECONDS [SEED]]: all programs of bridges/ beside a server, for ten minutes or SECONDS. At the end it says
-whether the station, the page, the file of keep.py, the topics that the broker retains and examples/panel.py all say
-what a fresh panel is sent, and whether anything moved that no client had commanded since the last loss. It needs
-mosquitto and paho-mqtt.
+bridges [SECONDS [SEED]]: all programs of bridges/ beside a server and a station of each kind, for ten minutes or
+SECONDS. It watches what moves at the stations. A train begins to move that nobody commanded since its last loss and
+since the last STOP ALL, or drives on after one of these: that is a breach, told with the moments of the command, the
+loss, the stop and the start. At the end it says whether the stations, the page, the file of keep.py, the topics that
+the broker retains and examples/panel.py all say what a fresh panel is sent. It needs mosquitto and paho-mqtt.
 routes [SECONDS [SEED]]: box.py with eight routes, many of which conflict, for ten minutes or SECONDS. Throttles ask
 for them, try to move their turnouts, and lock some. The box is killed and ended, its panel and its `interlock` are
 lost, and the server hangs and is started again. A panel checks that no turnout of a set route moves or is unlocked,
@@ -103,23 +104,25 @@ def bridges(program: str, seconds: int = 600, seed: int = 40) -> int:
         time.sleep(QUIET)
         return not list(evening.differences())
 
+    print(f"seed {seed}", flush=True)
     evening = Evening(program, seed)
     try:
         evening.run(seconds)
-        until(rested, "all say the same", 60)
+        until(rested, "all say the same", 30)
         differences = []
     except AssertionError:
         differences = list(evening.differences())
     finally:
         evening.ends()
-    print(f"{evening.count} changes, {len(evening.troubles)} troubles")
     for difference in differences:
         print(f"DIFFERS: {difference}")
-    for fault in evening.wrong:
-        print(f"MOVED: {fault}")
-    print("all say the same" if not differences else f"{len(differences)} differ")
-    print("nothing moved that nobody commanded" if not evening.wrong else f"{len(evening.wrong)} moved")
-    return len(differences) + len(evening.wrong)
+    watches = [rails.watch for rails in evening.rails.values()]
+    for watch in watches:
+        print(f"{watch.name}: {dict(watch.count)}; too late after a STOP ALL by {watch.latest:.2f} s at most")
+    breaches = sum(len(watch.breaches) for watch in watches)
+    print(f"seed {seed}: {evening.count['changes']} changes, {dict(evening.troubles)}, {dict(evening.count)}; "
+          f"{breaches} breaches, {len(differences)} differences")
+    return len(differences) + breaches
 
 
 def routes(program: str, seconds: int = 600, seed: int = 57) -> int:

@@ -1,28 +1,28 @@
 // Turnouts and signals, sensors, and power.
-import { $, button, isNamed, make, name, paint, paintWhy, place } from "./layout.js";
+import { $, aspect, button, isNamed, make, name, paint, paintWhy, place, signals } from "./layout.js";
 import { lockClass } from "./locomotives.js";
 import { ask, order, session } from "./server.js";
 import { text } from "./texts.js";
 
-const PULSE = 250;                              // milliseconds of a turnout's coil
+export const PULSE = 250;                       // milliseconds of a turnout's coil
 
 // ---- a turnout, or a signal: an accessory of more than two ports
 
-export async function put(key, ports, port, words) {
+export async function put(key, ports, port, words, time = Object.keys(ports).length > 2 ? -1 : PULSE) {
   const [bus, , address] = key.split(" ");
   for (const other of Object.keys(ports)) if (other !== port && ports[other].value) {
     const reply = await ask(key, "/command", `SET ${bus} GA ${address} ${other} 0 -1`, words);
     if (!reply.startsWith("200")) return reply;
   }
-  const time = Object.keys(ports).length > 2 ? -1 : PULSE;
   return ask(key, "/command", `SET ${bus} GA ${address} ${port} 1 ${time}`, words);
 }
 function makeAccessory(key, accessory) {
-  const ports = Object.keys(accessory.ports), isSignal = ports.length > 2;
+  const ports = Object.keys(accessory.ports), signal = signals.get(key), isSignal = ports.length > 2 || signal;
   const words = { className: "card", role: "group", ariaLabel: name(key) };
+  const says = port => signal && aspect(signal, +port)
+    || (isSignal ? port : text(port === "0" ? "straight" : "branch"));
   accessory.card?.remove();
-  accessory.buttons = new Map(ports.map(port => [port, button(
-    isSignal ? port : text(port === "0" ? "straight" : "branch"), isSignal ? text("portOf", { port }) : "",
+  accessory.buttons = new Map(ports.map(port => [port, button(says(port), isSignal ? text("portOf", { port }) : "",
     () => put(key, accessory.ports, port))]));
   accessory.card = make("li", words,
     make("div", { className: "name" }, name(key) + " ", make("small", { textContent: key })),
@@ -36,7 +36,8 @@ paint.GA = (key, accessory) => {
   if (!accessory.card || accessory.buttons.size !== ports.length) makeAccessory(key, accessory);
   for (const [port, each] of accessory.buttons) {
     each.ariaPressed = +port === accessory.lies;
-    each.disabled = !!accessory.lock && accessory.lock.session !== session;
+    const { isOfRoute, stop } = signals.get(key) ?? {};  // go is shown by routes alone
+    each.disabled = !!accessory.lock && accessory.lock.session !== session || isOfRoute && +port !== stop;
   }
   accessory.card.className = "card" + lockClass(accessory);
   paintWhy(key, accessory);
@@ -61,8 +62,19 @@ paint.FB = (key, sensor) => {
 
 const WHY = {                                   // texts of POWER, and how this page says them
   "no station": "noStation", "station was reset": "stationReset", "station says off": "stationOff",
-  "server was away": "serverWasAway", overload: "overload", "stop all": "cutByStop",
+  "server was away": "serverWasAway", overload: "overload", "stop all": "cutByStop", "all stood": "cutByStop",
+  "no driver": "noDriver",
 };
+const QUIET = ["stop all", "all stood", "confirms again"];  // of power that is on: the bar tells of them
+const UNCONFIRMED = "does not confirm: ";
+const THROWN = /^thrown by hand: (\d+) \d+$/;
+function says(bus, why) {
+  const [, address] = why.match(THROWN) ?? [];
+  if (address) return text("thrownByHand", { turnout: name(`${bus} GA ${address}`) });
+  if (!why.startsWith(UNCONFIRMED)) return why in WHY ? text(WHY[why]) : why;
+  const addresses = why.slice(UNCONFIRMED.length).split(" ");
+  return text("noConfirm", { names: addresses.map(address => name(`${bus} GL ${address}`)).join(", ") });
+}
 
 paint.POWER = (key, power) => {
   const [bus] = key.split(" "), { on, text: why } = power.does;
@@ -74,7 +86,6 @@ paint.POWER = (key, power) => {
   }
   power.card.textContent = text(on ? "powerOn" : "powerOff", { name: name(key) });
   power.card.ariaPressed = on;
-  const words = why in WHY ? text(WHY[why]) : why;
-  power.entry.textContent = text(on ? "trackSays" : "trackIsOff", { name: name(key), why: words });
-  power.entry.hidden = !why;
+  power.entry.textContent = text(on ? "trackSays" : "trackIsOff", { name: name(key), why: says(bus, why) });
+  power.entry.hidden = !why || on && QUIET.includes(why);
 };

@@ -1,9 +1,11 @@
 """A track plan as a person draws it in text: what stands where, and how it is joined.
 
 `=` is track from left to right, `/` and `\\` are diagonals, `+` is a crossing. Letters and digits are the name of an
-element. A diagonal goes on to what its end points to, else to what stands beside it.
+element. A diagonal goes on to what its end points to, else to what stands beside it. `#` before and behind a name is
+how far a platform reaches.
 """
 import re
+from collections.abc import Container
 from dataclasses import dataclass, field
 
 # Sides of a cell, in eighths of a turn.
@@ -13,8 +15,9 @@ SOUTHWEST = 3
 WEST = 4
 NORTHWEST = 5
 NORTHEAST = 7
+TO_THE_RIGHT = (NORTHEAST, EAST, SOUTHEAST)
 DOWN = {"\\": (SOUTHEAST, NORTHWEST, 1), "/": (SOUTHWEST, NORTHEAST, -1)}  # the lower side, the upper one, and its way
-PIECES = re.compile(r"\w+|[^ ]")
+PIECES = re.compile(r"#*\w+#*|[^ ]")
 PLAIN = ("=", "/", "\\")
 
 Point = tuple[float, float]
@@ -36,6 +39,7 @@ class Node:
     left: int
     right: int
     joins: list[tuple[int, "Node"]] = field(default_factory=list)
+    is_area: bool = False  # it is drawn with # beside it
     bend: float | None = None  # of an element: the column in which a diagonal leaves it
 
     def at(self) -> Point:
@@ -58,13 +62,15 @@ def apart(one: int, other: int) -> int:
     return min((one - other) % 8, (other - one) % 8)
 
 
-def draw(text: str, first: int) -> list[Node]:
-    """Returns the nodes of a drawing, whose first row is in that line of a file, joined as they stand."""
+def draw(text: str, first: int, beside: Container[str] = ()) -> list[Node]:
+    """Returns the nodes of a drawing, whose first row is in that line of a file, joined as they stand. `beside` has the
+    names of what stands beside the tracks."""
     cells: dict[tuple[int, int], Node] = {}
     nodes = []
     for row, line in enumerate(text.splitlines()):
         for piece in PIECES.finditer(line):
-            node = Node(piece[0], first + row, row, piece.start(), piece.end() - 1)
+            name = piece[0].strip("#") or piece[0]
+            node = Node(name, first + row, row, piece.start(), piece.end() - 1, is_area=name != piece[0])
             if not re.fullmatch(r"\w+|[=/\\+]", node.text):
                 raise Fault(node.line, f"{node.text!r} in {node.where()} is neither track nor a name")
             nodes.append(node)
@@ -72,10 +78,10 @@ def draw(text: str, first: int) -> list[Node]:
     for node in nodes:
         if node.text in DOWN:
             join_diagonal(cells, node)
-        elif (beside := cells.get((node.right + 1, node.row))) and beside.text not in DOWN:
-            join(node, EAST, beside, WEST)
+        elif (next_one := cells.get((node.right + 1, node.row))) and next_one.text not in DOWN:
+            join(node, EAST, next_one, WEST)
     for node in nodes:
-        check(node)
+        check(node, node.text in beside)
     return nodes
 
 
@@ -103,8 +109,9 @@ def join_diagonal(cells: dict[tuple[int, int], Node], node: Node) -> None:
             raise Fault(node.line, f"the track ends at the {node.text} in {node.where()}")
 
 
-def check(node: Node) -> None:
-    """Refuses track that divides without an element, and a crossing that one cannot go straight through."""
+def check(node: Node, is_beside: bool) -> None:
+    """Refuses track that divides without an element, a crossing that one cannot go straight through, and track that
+    leads to what stands beside the tracks."""
     sides = [side for side, _ in node.joins]
     if node.text == "=":
         to_the_east = sum(apart(side, EAST) <= 1 for side in sides)
@@ -112,5 +119,7 @@ def check(node: Node) -> None:
             raise Fault(node.line, f"tracks meet at the = in {node.where()}, where no turnout is named")
     elif node.text == "+" and any(sum(apart(side, other) == 4 for other in sides) != 1 for side in sides):
         raise Fault(node.line, f"a track ends at the + in {node.where()}")
-    elif not node.joins:
+    elif is_beside and node.joins:
+        raise Fault(node.line, f"track leads to {node.text} in {node.where()}, which stands beside the tracks")
+    elif not node.joins and not is_beside:
         raise Fault(node.line, f"{node.text} in {node.where()} has no track beside it")

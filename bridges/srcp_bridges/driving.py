@@ -10,18 +10,34 @@ TOP = 126  # the steps of a locomotive that is made here
 FUNCTIONS = 29  # of such a locomotive
 
 
+async def change(mirror, ask, bus, address, words, seen, keeps_speed=True):
+    """Commands a locomotive by the words that `words` makes of its direction and its row: mode, V, Vmax and functions.
+
+    `ask` carries out a command, and is told how many stops were counted as it was wanted: `seen`. One that comes
+    meanwhile is not undone. If the speed is kept, a V of 0 that another sets meanwhile is not undone either: the server
+    takes whole rows alone, so that 0 may be overwritten. The panel tells so, and then the locomotive is put to 0 again.
+    """
+    now = await ask(f"GET {bus} GL {address}", seen)
+    mode, v, *others = words(await mirror.way_by(bus, address, now), now)
+    v = 0 if keeps_speed and mirror.has_stood(bus, address, now) else v  # the panel may be faster than the reply
+    await ask(f"SET {bus} GL {address} {' '.join(map(str, (mode, v, *others)))}", seen)
+    if keeps_speed and v:
+        await mirror.catches_up((bus, "GL", address, False))
+        last = mirror.rows.get((bus, "GL", address, "does"))
+        if last and (last.mode, last.v) == (mode, v) and mirror.has_stood(bus, address, now):
+            await ask(f"SET {bus} GL {address} {mode} 0 {now.v_max}", seen)
+
+
 async def switch(mirror, ask, bus, address, changes):
     """Changes functions of a locomotive, and nothing else: the server is asked first how it drives.
 
-    `changes` has by number the new value, or None for the other one than it has. `ask` carries out a command, and is
-    told how many stops were counted by then: one that comes meanwhile is not undone.
+    `changes` has by number the new value, or None for the other one than it has. `ask` is that of `change`.
     """
-    seen = mirror.stops.count(bus, address)
-    now = await ask(f"GET {bus} GL {address}", seen)
-    functions = [old if number not in changes else 1 - old if changes[number] is None else changes[number]
-                 for number, old in enumerate(now.functions)]
-    words = [await mirror.way_by(bus, address, now), now.v, now.v_max, *functions]
-    await ask(f"SET {bus} GL {address} {' '.join(map(str, words))}", seen)
+    def words(way, now):
+        return way, now.v, now.v_max, *(old if number not in changes else 1 - old if changes[number] is None
+                                        else changes[number] for number, old in enumerate(now.functions))
+
+    await change(mirror, ask, bus, address, words, mirror.stops.count(bus, address))
 
 
 def used(command):
@@ -98,11 +114,11 @@ class Driver:
 
     async def drive(self, address, mode=None, v=None, seen=None):
         """Changes direction or speed of a locomotive. `seen`: the stops that were counted as this was asked for."""
+        def words(way, now):
+            return way if mode is None else mode, *((now.v, now.v_max) if v is None else (v, TOP))
+
         seen = self.mirror.stops.count(self.bus, address) if seen is None else seen
-        now = await self.ask(f"GET {self.bus} GL {address}")
-        way = await self.mirror.way_by(self.bus, address, now) if mode is None else mode
-        speed, most = (now.v, now.v_max) if v is None else (v, TOP)
-        await self.ask(f"SET {self.bus} GL {address} {way} {speed} {most}", seen)
+        await change(self.mirror, self.ask, self.bus, address, words, seen, v is None)
 
     async def switch(self, address, changes):
         """Changes functions of a locomotive, and nothing else."""

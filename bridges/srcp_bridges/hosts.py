@@ -4,6 +4,10 @@ import pathlib
 import socket
 
 RESOLVER = pathlib.Path("/etc/resolv.conf")
+# Under these the internet gives nobody a name (local: RFC 6762, home.arpa: RFC 8375, internal: reserved; the others are
+# no domains there), so no site can have its own name lead here by one. `fritz.box` is a domain there, of the maker of
+# the routers that give it.
+HOMES = {"local", "home.arpa", "internal", "lan", "home", "localdomain", "fritz.box"}
 ELSEWHERE = {socket.AF_INET: ("192.0.2.1", 9), socket.AF_INET6: ("2001:db8::1", 9)}  # of nobody; nothing is sent there
 
 
@@ -28,7 +32,8 @@ def is_own(host, own=None, resolver=RESOLVER):
     """Returns whether a request for this host means this machine: by a number, or by its name.
 
     Any site can have a name of its own lead here, also one that begins as this machine's does. So behind the machine's
-    name stands nothing, `local`, or a suffix of this network, under which the network alone gives names.
+    name stands nothing, or a suffix under which a network alone gives names, and no site: one of homes, or one that
+    this network has told this machine.
     """
     name = host.rsplit(":", 1)[0] if ":" in host.rpartition("]")[2] else host
     if address_of(name.strip("[]")):
@@ -37,7 +42,7 @@ def is_own(host, own=None, resolver=RESOLVER):
     name, beside, asked = name.lower().removesuffix(".").partition(".")
     if not beside:
         return name in (own, "localhost")
-    return name == own and asked in {"local", suffix, *suffixes(resolver)}
+    return name == own and asked in {suffix, *HOMES, *suffixes(resolver)}
 
 
 def to_type(bind):

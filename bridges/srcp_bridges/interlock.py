@@ -8,14 +8,19 @@ from asyncio.subprocess import PIPE
 from pathlib import Path
 from typing import Any
 
-from srcp_bridges.program import Wrong
-from srcp_bridges.rows import Key, Port, Row, Rows
+from srcp_bridges.plan import read_plan
+from srcp_bridges.program import Wrong, unread
+from srcp_bridges.rows import THROWN, Key, Port, Power, Row
 
 RUN = Path(__file__).resolve().parent.parent.parent / "run"  # that of the repository, if this file is in it
 FAULT = re.compile(r"^(?:srcp_server: plan|srcp_server|error): (.*)", re.M)
 LOCK = re.compile(r"SET (\d+) LOCK GA (\d+) 0")
+PORT = re.compile(r"SET (\d+) GA (\d+) \d+ 1 \d+")
+BY_HAND = re.compile(re.escape(THROWN) + r" (\d+) (\d+)")
 REPORT = re.compile(r"SET \d+ FB (\d+) ([01])")
 Accessory = tuple[int, int]  # bus, address
+Sensor = tuple[int, int]  # bus, address
+Signal = tuple[int, int, int, int]  # bus, address, port of go, port of stop
 
 
 def server_program() -> str:
@@ -24,13 +29,18 @@ def server_program() -> str:
 
 
 class RoutePlan:
-    """The routes of a file in which the program finds no fault: their bus, and by their numbers their names and their
-    turnouts. `signals` has those of all."""
+    """The routes of a file in which neither the program nor the page finds a fault: their bus, and by their
+    numbers their names, turnouts, blocks, signals and the sensors that free them. `signals` has the accessories of all
+    signals."""
 
     def __init__(self, program: str, path: str):
         self.program = program
         self.path = path
         words = program, "interlock", "--plan", path
+        try:
+            open(path, "rb").close()
+        except OSError as fault:  # of which the program tells neither the file nor the reason
+            raise Wrong(f"--plan {path}: {unread(path, fault)}") from None
         try:
             done = subprocess.run(words, stdin=subprocess.DEVNULL, capture_output=True, text=True)
         except OSError as fault:
@@ -42,15 +52,27 @@ class RoutePlan:
             document: dict[str, Any] = tomllib.loads(Path(path).read_text("utf-8"))
         except ValueError as fault:  # the program takes a mark of the byte order before it
             raise Wrong(f"--plan {path}: {fault}") from None
+        read_plan(path)
         routes, self.bus = document.get("route", []), document["bus"]
         self.names: dict[int, str] = {route["number"]: str(route.get("name", "")) for route in routes}
         self.turnouts: dict[int, set[Accessory]] = {
             route["number"]: {(bus, address) for bus, address, _ in route.get("turnouts", [])} for route in routes}
-        self.signals: set[Accessory] = {(signal[0], signal[1]) for route in routes if (signal := route.get("signal"))}
+        self.blocks: dict[int, set[Sensor]] = {
+            route["number"]: {(bus, address) for bus, address in route.get("blocks", [])} for route in routes}
+        self.frees: dict[int, Sensor] = {
+            route["number"]: (route["frees"][0], route["frees"][1]) for route in routes if "frees" in route}
+        self.signal: dict[int, Signal] = {
+            route["number"]: (bus, address, go, stop) for route in routes
+            for bus, address, go, stop in ([route["signal"]] if "signal" in route else [])}
+        self.signals: set[Accessory] = {(bus, address) for bus, address, _, _ in self.signal.values()}
 
     def accessories(self) -> list[Accessory]:
         """Returns all that it names, those that ask for routes first."""
         return [*((self.bus, number) for number in self.names), *sorted(self.signals.union(*self.turnouts.values()))]
+
+    def sensors(self) -> set[Sensor]:
+        """Returns all sensors that it names."""
+        return set(self.frees.values()).union(*self.blocks.values())
 
     def over(self, turnout: Accessory) -> list[int]:
         """Returns the routes that lead over a turnout."""
@@ -60,6 +82,19 @@ class RoutePlan:
 def locked(order: str) -> Accessory | None:
     """Returns the turnout that an order locks."""
     return (int(found[1]), int(found[2])) if (found := LOCK.fullmatch(order)) else None
+
+
+def thrown(order: str, plan: RoutePlan) -> Accessory | None:
+    """Returns the turnout that an order throws."""
+    found = PORT.fullmatch(order)
+    accessory = (int(found[1]), int(found[2])) if found else None
+    return None if accessory in plan.signals else accessory
+
+
+def thrown_by_hand(row: Row | None) -> tuple[int, int] | None:
+    """Returns the turnout of which the power of its bus tells that a hand has thrown it, and to which port."""
+    found = BY_HAND.fullmatch(row.text) if isinstance(row, Power) else None
+    return (int(found[1]), int(found[2])) if found else None
 
 
 def reported(order: str) -> tuple[int, bool] | None:
@@ -78,12 +113,12 @@ class Interlock:
         self.bus = bus
 
     @classmethod
-    async def begin(cls, plan: RoutePlan, session: int, rows: Rows) -> "Interlock":
+    async def begin(cls, plan: RoutePlan, session: int, sensors: dict[Sensor, Row]) -> "Interlock":
         words = plan.program, "interlock", "--plan", plan.path
         begun = cls(await asyncio.create_subprocess_exec(*words, stdin=PIPE, stdout=PIPE), plan.bus)
         begun.tell(f"200 OK GO {session}")
-        for key in [key for key in rows if key[1] == "FB"]:
-            begun.tell_row(key, rows[key])
+        for (bus, address), row in sensors.items():
+            begun.tell_row((bus, "FB", address, "does"), row)
         return begun
 
     def tell(self, words: str) -> None:
@@ -96,6 +131,10 @@ class Interlock:
         if isinstance(row, Port) and (group == "FB" or bus == self.bus):
             port = f"{part} " if group == "GA" else ""
             self.tell(f"100 INFO {bus} {group} {address} {port}{row.value}")
+
+    def tell_unknown(self, sensor: Sensor) -> None:
+        """Tells that nothing is known of a sensor any more."""
+        self.tell("102 INFO {} FB {}".format(*sensor))
 
     async def order(self) -> str:
         """Returns the next order, or an empty text if the program has ended."""

@@ -6,6 +6,7 @@ export const devices = new Map();               // "1 GL 3" -> { is, does, lock:
 export const paint = {};                        // the function that draws a device, by its group
 const waiting = new Set();
 let names = {}, labels = {}, drawn = [];
+let routes = { bus: null, names: new Map() };   // the bus on which routes are asked for and told, and their names
 
 export function make(tag, words = {}, ...inner) {
   const element = Object.assign(document.createElement(tag), words);
@@ -28,14 +29,31 @@ export function paintWhy(key, device) {
     : slots ? text("noSlot", { slots }) : text("notDriven", { why });
 }
 
+// The accessories and sensors of the routes' bus are requests and reports: they have no cards, and the names of routes.
+export function askedOn(bus, given) {
+  const named = given.map(({ number, name }) => [`${bus} GA ${number}`, name]);
+  routes = { bus: given.length ? bus : null, names: new Map(named) };
+}
+function isOfRoutes(key) {
+  const [bus, group] = key.split(" ");
+  return +bus === routes.bus && (group === "GA" || group === "FB");
+}
+
 export function called(given, functions) { [names, labels] = [given, functions]; }
 export const labelOf = (key, n) => labels[key]?.[n];  // of a function of a locomotive
+// The signals of the plan, by their keys: what an accessory of two ports shows is told by that alone.
+export const signals = new Map();
+export function aspect({ go, stop, aspects }, port) {
+  return aspects[port] || (port === stop ? text("halt") : port === go ? text("go") : "");
+}
+
 export const isNamed = key => key in names;
 export function name(key) {
   const [, group, address] = key.split(" ");
   const ports = Object.keys(devices.get(key)?.ports ?? {}).length;
-  const kind = { GL: "locomotive", GA: ports > 2 ? "signal" : "turnout", FB: "sensor" }[group];
-  return names[key] ?? (kind ? `${text(kind)} ${address}` : `${text("power")} ${key.split(" ")[0]}`);
+  const kind = { GL: "locomotive", GA: ports > 2 || signals.has(key) ? "signal" : "turnout", FB: "sensor" }[group];
+  const called = routes.names.get(key) ?? names[key];
+  return called ?? (kind ? `${text(kind)} ${address}` : `${text("power")} ${key.split(" ")[0]}`);
 }
 
 // Puts a card where its address has it.
@@ -66,7 +84,7 @@ export const whenDrawn = then => drawn.push(then);
 function draw() {
   const keys = [...waiting].filter(key => devices.has(key));
   waiting.clear();
-  for (const key of keys) paint[key.split(" ")[1]](key, devices.get(key));
+  for (const key of keys) if (!isOfRoutes(key)) paint[key.split(" ")[1]](key, devices.get(key));
   for (const then of drawn) then(keys);
 }
 

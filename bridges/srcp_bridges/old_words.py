@@ -4,7 +4,7 @@ import re
 import time
 from collections.abc import Callable
 
-from srcp_bridges.rows import Refused
+from srcp_bridges.rows import Refused, position
 from srcp_bridges.srcp import Mirror
 
 NUMBER = re.compile("[0-9]{1,9}")
@@ -84,8 +84,9 @@ class Answers:
         except Refused as reply:
             return str(reply)
 
-    async def describe(self, bus: int, words: list[str]) -> str:
-        """Answers GET b DESCRIPTION; with GL or GA and an address also what that is."""
+    async def describe(self, bus: int, words: list[str], programs: bool) -> str:
+        """Answers GET b DESCRIPTION; with GL or GA and an address also what that is. `programs`: decoders can be
+        programmed."""
         if words:
             return fault(words[1:], 99999) or await self.describe_device(bus, words[0].upper(), int(words[1]))
         if bus == 0:
@@ -94,7 +95,7 @@ class Answers:
         if replies["POWER"] == WRONG:
             return WRONG
         groups = [group for group, reply in replies.items() if not reply.startswith("422")]
-        groups += ["LOCK"] * ("GL" in groups or "GA" in groups)
+        groups += ["LOCK"] * ("GL" in groups or "GA" in groups) + ["SM"] * programs
         return " ".join([f"100 INFO {bus} DESCRIPTION", *groups, "DESCRIPTION"])
 
     async def describe_device(self, bus: int, group: str, address: int) -> str:
@@ -108,6 +109,13 @@ class Answers:
                 return f"101 INFO {bus} {group} {address} {' '.join(map(str, row[1:]))}"
             await asyncio.sleep(0.01)
         return NO_DATA if reply == "200" else reply
+
+    async def lies(self, bus: int, address: str) -> str:
+        """Answers GET b GA a 0 for a client that knows port 0 alone: the port to which the turnout was put last."""
+        if (reply := await self.ask(f"GET {bus} GA {address} 0")) != "200":
+            return reply
+        await self.mirror.catches_up((bus, "GA", int(address), False))
+        return f"100 INFO {bus} GA {address} 0 {position(self.mirror.rows, bus, int(address)) or 0}"
 
     async def wait_sensor(self, bus: int, words: list[str]) -> str:
         """Answers WAIT b FB a value seconds."""

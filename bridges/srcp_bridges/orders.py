@@ -3,7 +3,7 @@ import asyncio
 from collections import namedtuple
 from functools import partial
 
-from srcp_bridges.driving import switch
+from srcp_bridges.driving import change, switch
 from srcp_bridges.rows import EMERGENCY_STOP, Refused
 from srcp_bridges.stop import send, stop_all, stop_one
 from srcp_bridges.topics import commands_for, locomotive_of, wanted_of
@@ -97,12 +97,14 @@ class Orders:
         if order.wanted[:3] == (None, None, None):
             return
         bus, address = order.locomotive
-        now = await order.session.ask(f"GET {bus} GL {address}")
         steps = getattr(self.mirror.rows.get((bus, "GL", address, "is")), "steps", 0)
-        way = await self.mirror.way_by(bus, address, now)
-        words = [new if new is not None else old for new, old in zip(order.wanted, (way, now.v, now.v_max or steps))]
-        command = f"SET {bus} GL {address} {' '.join(map(str, words))}"
-        await send(self.mirror.stops, order.session, command, order.seen)
+
+        def words(way, now):
+            is_now = way, now.v, now.v_max or steps
+            return [old if new is None else new for new, old in zip(order.wanted, is_now)]
+
+        ask = partial(send, self.mirror.stops, order.session)
+        await change(self.mirror, ask, bus, address, words, order.seen, order.wanted.v is None)
 
     async def switch(self, order):
         """Switches the functions that are wanted; none, if the locomotive has not all of them."""

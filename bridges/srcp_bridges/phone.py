@@ -33,6 +33,8 @@ class Phone:
         self.watched = False
         self.looked = asyncio.get_running_loop().time()
         self.went_on = self.looked - STOPPED
+        self.is_silent = False
+        self.came_back = self.looked - STOPPED
         self.view = View(layout, self.driver.taken, self.say)
         self.words = Words(layout, self.driver, self.view, self.say)
         self.waiting: asyncio.PriorityQueue[Line] = asyncio.PriorityQueue()
@@ -43,15 +45,15 @@ class Phone:
         elif not self.writer.is_closing():
             self.writer.write(text.encode() + b"\r\n")
 
-    def take(self, text):
-        """Takes in a line."""
+    def take(self, text: str, by_phone: bool = True):
+        """Takes in a line, of the phone or, if it is silent, of this program."""
         if text in ("*+", "*-"):
             self.watched = text == "*+"
         elif text.startswith("N"):
             self.driver.name = "phone " + "".join(letter for letter in text[1:NAME] if letter.isprintable())
             self.say(self.layout.beat())
         elif text != END:
-            line = self.words.line(text, self.was_stopped())
+            line = self.words.line(text, self.was_stopped(), by_phone, self.was_silent())
             if self.waiting.qsize() < (WAITING if line.turn == USUAL else 2 * WAITING):
                 self.waiting.put_nowait(line)
             else:
@@ -70,6 +72,10 @@ class Phone:
         now = asyncio.get_running_loop().time()
         return now - self.looked > STOPPED or now - self.went_on < STOPPED
 
+    def was_silent(self) -> bool:
+        """Returns whether the phone has just come back after a silence: what comes in then may be as old as that."""
+        return asyncio.get_running_loop().time() - self.came_back < STOPPED
+
     async def next_line(self):
         """Returns the next line. A phone that is silent is stopped, and after a while it counts as gone."""
         if self.waiting.qsize() >= WAITING and self.words.lines % AT_ONCE == 0:
@@ -77,9 +83,14 @@ class Phone:
         for seconds in (self.layout.asked.heartbeat if self.watched else None, self.layout.asked.patience):
             try:
                 async with asyncio.timeout(seconds):
-                    return (await self.reader.readuntil(b"\n")).decode("utf-8", "replace").strip()
+                    line = (await self.reader.readuntil(b"\n")).decode("utf-8", "replace").strip()
             except TimeoutError:
-                self.take(STOP_EVERY)
+                self.is_silent = True
+                self.take(STOP_EVERY, by_phone=False)
+                continue
+            if self.is_silent:
+                self.is_silent, self.came_back = False, asyncio.get_running_loop().time()
+            return line
         raise ConnectionError("silent for too long")
 
     async def read(self):
@@ -106,7 +117,7 @@ class Phone:
             why = str(fault)
         finally:
             say(f"phone {self.peer}: {why}")
-            self.take(STAND_EVERY)
+            self.take(STAND_EVERY, by_phone=False)
             self.waiting.put_nowait(self.words.line(END))
 
     async def carry_out(self):

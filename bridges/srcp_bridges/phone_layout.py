@@ -10,7 +10,7 @@ from srcp_bridges.phone_routes import NO_ROUTES, Routes
 from srcp_bridges.places import Places
 from srcp_bridges.plan import read_plan
 from srcp_bridges.program import names
-from srcp_bridges.rows import position
+from srcp_bridges.rows import ALL_STOOD, CONFIRMED, THROWN as BY_HAND, UNCONFIRMED, Power, position
 from srcp_bridges.srcp import Mirror
 
 if TYPE_CHECKING:
@@ -19,6 +19,7 @@ if TYPE_CHECKING:
 PHONES = 40  # phones that are served in all
 OF_ONE = 8  # those of one address
 MOMENT = 0.3  # seconds for which changes of a list are gathered
+CONFIRMING = (ALL_STOOD, UNCONFIRMED, CONFIRMED, BY_HAND)  # texts of the power that tell of no new stop
 STAND_EVERY = "M*A*<;>V0"  # as a phone says that all stands that it has taken
 ROUTES = "routes"  # a list, beside those of the groups GL and GA
 UNKNOWN = "1"
@@ -51,8 +52,8 @@ class Layout:
         if part == "is" and not (change.row and change.before):
             self.list_anew(group)
         elif change.row:
-            if group == "POWER" and change.before and change.before.on and not change.row.on:
-                self.power_went_off(change.row.text)
+            if group == "POWER":
+                self.power_changed(change.before, change.row)
             for phone in self.phones:
                 phone.view.changed(group, address)
 
@@ -63,13 +64,17 @@ class Layout:
             for phone in self.phones:
                 phone.view.route(number)
 
-    def power_went_off(self, why: str):
-        """Refuses what phones sent before. If there is a reason, it was a loss, or a STOP ALL that could not stop what
-        phones have locked: all of that is put to rest, so that nothing drives as the power comes back."""
+    def power_changed(self, before: Power | None, row: Power):
+        """As the power goes off, refuses what phones sent before. If there is a reason, it was a loss, or a STOP ALL
+        that could not stop what phones have locked: all of that is put to rest, so that nothing drives as the power
+        comes back. Of a server that was started anew only that reason tells."""
+        is_new = bool(row.text) and (not before or before.text != row.text) and not row.text.startswith(CONFIRMING)
+        if row.on or not (before and before.on or is_new):
+            return
         self.mirror.stops.all += 1
-        if why:
+        if row.text:
             for phone in self.phones:
-                phone.take(STAND_EVERY)
+                phone.take(STAND_EVERY, by_phone=False)
 
     async def look_for_bus(self):
         """Looks at each server that is joined whether it has the bus."""
@@ -118,9 +123,11 @@ class Layout:
         return UNKNOWN if port is None else THROWN if port else CLOSED
 
     def power(self) -> tuple[str, str]:
-        """Returns what phones are told of the power, and why it is off, if that is known."""
+        """Returns what phones are told of the power, and why it is off, or what is wrong with it, if that is known."""
         power = self.row("POWER", 0, "does")
-        return ("PPA1", "") if power and power.on else ("PPA0", power.text if power else "")
+        if power and power.on:
+            return "PPA1", power.text if power.text.startswith(UNCONFIRMED) else ""
+        return "PPA0", f"power off: {power.text}" if power and power.text else ""
 
     def roster(self) -> str:
         entries = [f"{self.name('GL', address)}}}|{{{address}}}|{{{'S' if address < 128 else 'L'}"

@@ -1,6 +1,11 @@
 """What a phone shows of the layout."""
 from srcp_bridges.driving import TOP
-from srcp_bridges.rows import EMERGENCY_STOP
+from srcp_bridges.rows import EMERGENCY_STOP, Drive
+
+
+def speed_of(drive: Drive | None) -> int:
+    """Returns the speed of a locomotive as phones are told it, of 126: above 0 if it drives."""
+    return -(-drive.v * TOP // (drive.v_max or TOP)) if drive else 0
 
 
 class View:
@@ -47,7 +52,7 @@ class View:
         if why != self.shown.get("why", ""):
             self.shown["why"] = why
             if why:
-                self.say(f"HMpower off: {why}")
+                self.say(f"HM{why}")
 
     def drive(self, which, drive):
         begin = f"M{which[0]}A{which[1]}<;>"
@@ -55,7 +60,7 @@ class View:
             self.show((which, number), f"{begin}F{value}{number}")
         if drive.mode != EMERGENCY_STOP:
             self.show((which, "R"), f"{begin}R{drive.mode}")
-        self.show((which, "V"), f"{begin}V{-(-drive.v * TOP // (drive.v_max or TOP))}")
+        self.show((which, "V"), f"{begin}V{speed_of(drive)}")
 
     def forget(self, which, *parts):
         """Forgets what the phone was told of a locomotive, or a part of that."""

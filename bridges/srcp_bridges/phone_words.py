@@ -7,7 +7,7 @@ from typing import Callable, NamedTuple
 
 from srcp_bridges.driving import TOP, Driver
 from srcp_bridges.phone_layout import CLOSED, Layout
-from srcp_bridges.phone_view import View
+from srcp_bridges.phone_view import View, speed_of
 from srcp_bridges.rows import Refused
 from srcp_bridges.stop import stop_one
 
@@ -27,17 +27,23 @@ Which = tuple[str, str]  # a locomotive of a phone, by its throttle and its key:
 class Line(NamedTuple):
     """A line of a phone. Lines are carried out as they are sorted. `stops` gives how often others had stopped the
     locomotive of an address as the line came in. `is_old`: this program was stopped then, so others may have stopped
-    what they have stopped after the phone sent the line."""
+    what they have stopped after the phone sent the line. `by_phone`: if not, this program says it, as for a phone that
+    is silent. `is_held`: the network may have held it back for as long as the phone was silent."""
     turn: int
     number: int
     text: str
     stops: Callable[[int], int]
     is_old: bool
+    by_phone: bool
+    is_held: bool
 
 
 class Words:
     """Carries out what the lines of a phone say. `stopped` has the number of the last line that stopped something: by
-    throttle and key, and by address."""
+    throttle and key, and by address. `answered` has, by address, the stops by others that the phone has answered by one
+    of its own, or that were before it took the locomotive. After any other stop its lines may be older: the network
+    holds lines back. So they do not have it drive faster.
+    """
 
     def __init__(self, layout: Layout, driver: Driver, view: View, say: Callable[[str], None]):
         self.layout = layout
@@ -49,16 +55,22 @@ class Words:
         self.stopped: dict[Which | int, int] = {}
         self.own: Counter[int] = Counter()  # stops that this phone ordered, by address
         self.momentary: dict[Which, set[int]] = {}  # functions, by locomotive
-        self.told: dict[Which, int] = {}  # the stops that the phone was told of, by locomotive
+        self.answered: dict[int, int] = {}
+        self.told: dict[Which, list[tuple[int, int]]] = {}  # the stops that the phone was told of, by locomotive
 
-    def line(self, text: str, is_old=False) -> Line:
+    def line(self, text: str, is_old: bool = False, by_phone: bool = True, is_held: bool = False) -> Line:
         """Takes note of a line as it comes in. If it stops something, what waits does not start that again."""
         self.lines += 1
         turn = URGENT if (found := STOPS.fullmatch(text)) or text == "PPA0" else USUAL
         if turn == URGENT:
             self.stopped[(found[1], found[2]) if found else POWER] = self.lines
         counted, own = self.layout.mirror.stops.now(), self.own.copy()
-        return Line(turn, self.lines, text, lambda address: counted(self.bus, address) - own[address], is_old)
+        return Line(turn, self.lines, text, lambda address: counted(self.bus, address) - own[address], is_old,
+                    by_phone, is_held)
+
+    def others(self, address: int) -> int:
+        """Returns how often others have stopped a locomotive, or this program has as the phone was silent."""
+        return self.layout.mirror.stops.count(self.bus, address) - self.own[address]
 
     def is_late(self, line: Line, *names: Which | int) -> bool:
         """Returns whether the phone itself stopped one of these after it sent the line."""
@@ -87,9 +99,9 @@ class Words:
     async def multi(self, line: Line, throttle: str, act: str, key: str, words: str):
         """M<throttle><act><key><;><words>: for one locomotive, or with the key * for all of the throttle."""
         if act == "+":
-            await self.add((throttle, key), words)
+            await self.add((throttle, key), words, line)
         elif act == "S":
-            await self.steal((throttle, key))
+            await self.steal((throttle, key), line)
         else:
             await self.each(throttle, key, lambda which: self.give_back(which) if act == "-" else
                             self.action(which, words, line))
@@ -108,11 +120,13 @@ class Words:
         if refusals:
             raise Refused("; ".join(dict.fromkeys(refusals)))
 
-    async def add(self, which: Which, words: str):
+    async def add(self, which: Which, words: str, line: Line):
         """Takes a locomotive, by the address in its key. One that another phone has is offered instead."""
         throttle, key = which
         if not (address := self.layout.address(key, words[1:] if words[:1] == "E" else "")):
             raise Refused(f"no locomotive {words or key}")
+        if address not in self.driver.taken.values() and not line.is_held:
+            self.answered[address] = line.stops(address)
         try:
             drive = await self.driver.take(which, address, 1 + (key[:1] == "L"))
         except Refused as reply:
@@ -126,12 +140,12 @@ class Words:
         self.view.drive(which, drive)
         self.say(self.about(which, STEPS))
 
-    async def steal(self, which: Which):
+    async def steal(self, which: Which, line: Line):
         """Takes a locomotive that another phone has. It drives on as it does."""
         address = self.layout.address(which[1])
         if address and (holder := self.layout.holder(address)):
             await holder.words.yield_to(self.driver, address)
-        await self.add(which, which[1])
+        await self.add(which, which[1], line)
 
     async def yield_to(self, other: Driver, address: int):
         """Lets another phone have a locomotive, and tells this one."""
@@ -164,23 +178,38 @@ class Words:
     async def stop(self, address: int, line: Line, words: str):
         """Has a locomotive stand (V0, I, Q), or make an emergency stop."""
         self.stopped[address] = line.number
+        if line.by_phone and not line.is_held:  # or the app, as it is told of a stop: by then all has come of before
+            self.answered[address] = line.stops(address)
         if words[0] in "IQ" or words[:2] == "V0":
             return await self.driver.drive(address, v=0)
-        self.own[address] += 1
+        self.own[address] += line.by_phone
         await stop_one(self.layout.mirror, self.driver.ask, self.bus, address)
 
     async def move(self, which: Which, line: Line, mode: int | None, v: int | None):
-        """Changes speed or direction, unless the locomotive was stopped after the line had come in. If another did
-        that, the phone is told once."""
+        """Changes speed or direction, unless the phone has stopped the locomotive since. While stops by others are
+        not answered, one that drives is made slower, and no more; one that stands is turned."""
         address = self.driver.taken[which]
-        if self.is_late(line, address, which, (which[0], EVERY), (EVERY, EVERY)):
+        if self.is_late(line, address, which, (which[0], EVERY), (EVERY, EVERY), POWER):
             return
-        seen, count = line.stops(address) + self.own[address], self.layout.mirror.stops.count(self.bus, address)
-        if count == seen:
-            await self.driver.drive(address, mode, v, seen)
-        elif self.told.get(which) != count:
-            self.told[which] = count
-            raise Refused(f"{address}: it was stopped meanwhile")
+        now = speed_of(self.layout.row("GL", address, "does"))
+        if (stopped := self.unanswered(which[0])) and (now if v is None else v > now):
+            return self.refuse(which, stopped)
+        await self.driver.drive(address, mode, v)
+
+    def unanswered(self, throttle: str) -> list[tuple[int, int]]:
+        """Returns which locomotives of a throttle others have stopped, and how often, if the phone has not answered.
+        Those of one throttle are coupled: if one of them is to stand, the others do not push it."""
+        together = sorted({address for which, address in self.driver.taken.items() if which[0] == throttle})
+        stops = [(address, self.others(address)) for address in together]
+        return [(address, count) for address, count in stops if count > self.answered[address]]
+
+    def refuse(self, which: Which, stopped: list[tuple[int, int]]):
+        """Tells the phone once why its locomotive does not drive, and each time how it does."""
+        if self.told.get(which) == stopped:
+            return self.view.anew(which)
+        self.told[which] = stopped
+        addresses = ", ".join(str(address) for address, _ in stopped)
+        raise Refused(f"{addresses}: stopped by others: press stop, or go to 0, before you drive on")
 
     async def function(self, which: Which, act: str, number: int, on: int):
         """F is the button of a function, pressed or let go; f sets the function; m says which buttons do not toggle."""
@@ -205,6 +234,8 @@ class Words:
                 self.say(self.about(which, f"m{int(number in self.momentary[which])}{number}"))
 
     async def power(self, line: Line):
+        """Switches the power. Off is a stop of the phone's own, which the panel tells as one by others."""
+        is_on = self.layout.power()[0] == "PPA1"
         if line.text == "PPA1" and self.is_late(line, POWER):
             return
         try:
@@ -213,6 +244,9 @@ class Words:
         except Refused:
             self.view.again("power", "POWER", 0)
             raise
+        if line.text == "PPA0" and not line.is_held:
+            await self.layout.mirror.catches_up((self.bus, "POWER", 0, False))
+            self.answered |= {address: line.stops(address) + is_on for address in self.driver.taken.values()}
 
     async def route(self, name: str):
         """Asks for a route, or gives back one that is set or waits."""

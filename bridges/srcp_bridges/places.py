@@ -3,7 +3,8 @@ import asyncio
 import collections
 import contextlib
 import socket
-from collections.abc import Iterator
+from collections.abc import AsyncIterator, Iterator
+from typing import Any
 
 from srcp_bridges.program import PORT, Wrong
 
@@ -41,9 +42,14 @@ def add_arguments(words, option: str, default: int, whom: str):
     words.add_argument("--bind", default="127.0.0.1", metavar="ADDRESS", help="this machine's address (%(default)s)")
 
 
-async def listen(serve, bind: str, port: int, **more) -> asyncio.Server:
-    """Begins to serve connections at an address of this machine."""
+@contextlib.asynccontextmanager
+async def listen(serve: Any, bind: str, port: int, **more: Any) -> AsyncIterator[asyncio.Server]:
+    """Serves connections at an address of this machine. As it ends it takes no more, and waits for none."""
     try:
-        return await asyncio.start_server(serve, bind, port, **more)
+        server = await asyncio.start_server(serve, bind, port, **more)
     except socket.gaierror as fault:
         raise Wrong(f"--bind {bind}: {fault}") from None
+    try:
+        yield server
+    finally:
+        server.close()  # asyncio's own exit waits for each client, from Python 3.12 on: trains would drive on

@@ -3,11 +3,14 @@ import tomllib
 from typing import Any, NamedTuple
 
 from srcp_bridges.drawing import Fault, draw
-from srcp_bridges.elements import Elements
+from srcp_bridges.elements import Elements, names_beside
 from srcp_bridges.lines import Lines
-from srcp_bridges.program import Wrong
-from srcp_bridges.routes import Routes
+from srcp_bridges.program import Wrong, unread
+from srcp_bridges.routes import Routes, check_routes
 from srcp_bridges.tracks import tracks_of
+
+
+KEYS = ("bus", "plan", "legend", "names", "functions", "route")
 
 
 class Plan(NamedTuple):
@@ -25,12 +28,16 @@ def read_plan(path: str | None) -> Plan:
         with open(path, "rb") as file:
             return plan_of(file.read().decode())
     except (OSError, ValueError) as fault:
-        raise Wrong(f"--plan {path}: {fault}") from None
+        raise Wrong(f"--plan {path}: {unread(path, fault)}") from None
 
 
 def plan_of(content: str) -> Plan:
     """Returns what the text of a file says; raises ValueError for the first fault."""
     document, lines = tomllib.loads(content), Lines(content)
+    for key in document:
+        if key not in KEYS:
+            raise Fault(lines.of("", key), f"{key} is no key of a plan: {', '.join(KEYS)} are")
+    check_routes(document, lines)
     for table in ("names", "functions", "legend"):
         if not isinstance(document.get(table, {}), dict):
             raise Fault(lines.of(table), f"{table} is a table: [{table}]")
@@ -49,10 +56,14 @@ def drawing_of(document: dict[str, Any], lines: Lines) -> dict[str, Any]:
     """Returns what the page draws: the tracks, what stands on them, and the routes."""
     if not isinstance(document["plan"], str):
         raise Fault(lines.of("", "plan"), "the plan is a text")
-    nodes = draw(document["plan"], lines.first("plan"))
-    elements = Elements(nodes, document.get("legend", {}), lines)
+    legend = document.get("legend", {})
+    nodes = draw(document["plan"], lines.first("plan"), names_beside(legend))
+    elements = Elements(nodes, legend, lines)
     tracks, ways = tracks_of(nodes)
     routes = Routes(document, lines, elements, ways)
+    told = routes.told()
+    elements.face(routes.passed)
     return {"width": max((node.right + 1 for node in nodes), default=0),
             "height": max((node.row + 1 for node in nodes), default=0), "tracks": tracks,
-            "elements": elements.told(tracks, ways), "bus": routes.bus, "routes": routes.told()}
+            "elements": elements.told(tracks, ways), "beside": elements.told(tracks, ways, are_beside=True),
+            "bus": routes.bus, "routes": told}

@@ -5,11 +5,9 @@ import contextlib
 import os
 import signal
 import sys
+import tomllib
 
-try:
-    import tomllib
-except ImportError:
-    sys.exit("-- this takes Python 3.11 or later")
+from srcp_bridges.release import release
 
 said: dict[str, str] = {}
 
@@ -50,6 +48,14 @@ def printable(text):
     return "".join(letter if letter.isprintable() else f"\\x{ord(letter):02x}" for letter in text)
 
 
+def unread(path: str, fault: Exception) -> str:
+    """Returns why a file cannot be read, also if that is because a unit of systemd does not see it."""
+    home = os.path.abspath(path).startswith(("/home/", "/root/", "/run/user/"))
+    if home and isinstance(fault, OSError) and "INVOCATION_ID" in os.environ:  # which systemd sets
+        return "a unit does not see what is in /home (ProtectHome): put the file into /etc"
+    return str(fault)
+
+
 def names(path):
     """Returns the names of devices in a file with lines such as "1 GL 3" = "V 100"."""
     if not path:
@@ -58,7 +64,7 @@ def names(path):
         with open(path, "rb") as file:
             return {device: " ".join(str(name).split()) for device, name in tomllib.load(file).items()}
     except (OSError, ValueError) as fault:
-        raise Wrong(f"--names {path}: {fault}") from None
+        raise Wrong(f"--names {path}: {unread(path, fault)}") from None
 
 
 def number(least, most):
@@ -80,9 +86,17 @@ class Arguments(argparse.ArgumentParser):
         self.exit(2, f"-- {printable(message)}\n")
 
 
-def arguments(about):
-    """Returns a parser of what every program can be told; it adds its own."""
+def parser(about: str | None) -> Arguments:
+    """Returns a parser of the words of a program, which knows --help and --version."""
     words = Arguments(description=about, formatter_class=argparse.RawDescriptionHelpFormatter)
+    words.add_argument("--version", action="version", version=f"%(prog)s {release()}, for SRCP 0.8.4",
+                       help="tell its release, and end")
+    return words
+
+
+def arguments(about):
+    """Returns a parser of what every program of a session can be told; it adds its own."""
+    words = parser(about)
     words.add_argument("--host", default="127.0.0.1", help="where the server is (%(default)s)")
     words.add_argument("--port", type=PORT, default=4303, help="its port (%(default)s)")
     words.add_argument("--again", type=float, default=1.0, metavar="SECONDS",

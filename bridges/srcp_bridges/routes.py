@@ -1,14 +1,54 @@
 """The routes of a plan: each leads from a button to another, over turnouts that it wants put to a port."""
 from typing import Any
 
-from srcp_bridges.drawing import Fault
-from srcp_bridges.elements import ACCESSORIES, BUSES, TURNOUT, Elements, is_within
+from srcp_bridges.drawing import TO_THE_RIGHT, Fault
+from srcp_bridges.elements import ACCESSORIES, BUSES, LEFT, PORTS, RIGHT, SENSORS, TURNOUT, Elements, is_within
 from srcp_bridges.lines import Lines
-from srcp_bridges.tracks import Ways, way
+from srcp_bridges.tracks import Ways, leaves, way
+
+KEYS = ("number", "name", "from", "to", "turnouts", "blocks", "signal", "frees")
+ROUTE_TURNOUT = (BUSES, ACCESSORIES, PORTS)
+SENSOR = (BUSES, SENSORS)
+SIGNAL = (BUSES, ACCESSORIES, PORTS, PORTS)
+
+
+def check_routes(document: dict[str, Any], lines: Lines) -> None:
+    """Refuses routes whose words are not those of routes, whether a track plan is drawn or not."""
+    given = document.get("route", [])
+    if not isinstance(given, list) or not all(isinstance(each, dict) for each in given):
+        raise Fault(lines.of("route"), "a route is a table: [[route]]")
+    if given and not is_within([document.get("bus")], (BUSES,)):
+        raise Fault(lines.of("", "bus"), "the routes have a bus of their own: bus = 1 to 250")
+    for index, route in enumerate(given):
+        check_route(index, route, document.get("bus"), lines)
+
+
+def check_route(index: int, given: dict[str, Any], own: object, lines: Lines) -> None:
+    """Refuses a route whose words are not those of a route, or that has a device of the routes' own bus."""
+    def refuse(key: str, text: str) -> None:
+        raise Fault(lines.of("route", key, index), text)
+
+    for key in given:
+        if key not in KEYS:
+            refuse(key, f"{key} is no key of a route: {', '.join(KEYS)} are")
+    if not is_within([given.get("number")], (ACCESSORIES,)):
+        refuse("number", "a route has a number from 1 to 2044")
+    for key, each, what in (("turnouts", ROUTE_TURNOUT, "[bus, address, port]"), ("blocks", SENSOR, "[bus, sensor]")):
+        values = given.get(key, [])
+        if not isinstance(values, list) or not all(is_within(value, each) for value in values):
+            refuse(key, f"the {key} of a route are a list of {what}")
+        if any(value[0] == own for value in values):
+            refuse(key, f"the {key} of a route are on other buses than the routes' own, {own}")
+    for key, each, what in (("signal", SIGNAL, "[bus, address, port of go, port of stop]"),
+                            ("frees", SENSOR, "[bus, sensor]")):
+        if key in given and not is_within(given[key], each):
+            refuse(key, f"the key {key} of a route is {what}")
+        if key in given and given[key][0] == own:
+            refuse(key, f"the key {key} of a route is on another bus than the routes' own, {own}")
 
 
 class Routes:
-    """Reads the routes of a document whose drawing has these elements."""
+    """Reads the routes of a document whose drawing has these elements. Their words are those of routes."""
 
     def __init__(self, document: dict[str, Any], lines: Lines, elements: Elements, ways: Ways):
         self.lines = lines
@@ -16,10 +56,7 @@ class Routes:
         self.ways = ways
         self.bus = document.get("bus")
         self.given = document.get("route", [])
-        if not isinstance(self.given, list) or not all(isinstance(each, dict) for each in self.given):
-            raise Fault(lines.of("route"), "a route is a table: [[route]]")
-        if self.given and not is_within([self.bus], (BUSES,)):
-            raise Fault(lines.of("", "bus"), "the routes have a bus of their own: bus = 1 to 250")
+        self.passed: dict[str, set[str]] = {}  # to which sides routes pass their signals, by the names of these
 
     def told(self) -> list[dict[str, Any]]:
         """Returns what the page is told of them."""
@@ -32,16 +69,16 @@ class Routes:
                 if all(before[key] == given[key] for key in ("from", "to")):
                     raise self.wrong(index, "to", f"route {before['number']} leads from {given['from']} to "
                                      f"{given['to']} already")
-            told.append({key: given[key] for key in ("number", "name", "from", "to")} | self.way(index, given))
+            told.append({key: given[key] for key in ("number", "name", "from", "to")} | self.way(index, given)
+                        | devices_of(given))
         return told
 
     def wrong(self, index: int, key: str, text: str) -> Fault:
         return Fault(self.lines.of("route", key, index), text)
 
     def check(self, index: int, given: dict[str, Any]) -> None:
-        """Refuses a route whose words are not those of a route."""
-        if not is_within([given.get("number")], (ACCESSORIES,)):
-            raise self.wrong(index, "number", "a route has a number from 1 to 2044")
+        """Refuses a route without a name, or that leads from or to what is no button of the drawing, or over a turnout
+        that has more than two ports."""
         if not isinstance(given.get("name"), str):
             raise self.wrong(index, "name", "a route has a name")
         buttons = [name for name, element in self.elements.named.items() if element.kind == "button"]
@@ -53,7 +90,7 @@ class Routes:
             raise self.wrong(index, "turnouts", "the turnouts of a route are a list of [bus, address, port]")
 
     def way(self, index: int, given: dict[str, Any]) -> dict[str, Any]:
-        """Returns the tracks of a route, and the keys of its turnouts."""
+        """Returns the tracks of a route."""
         ports = {(bus, address): port for bus, address, port in given.get("turnouts", [])}
         begin, end = (self.elements.named[given[key]].node for key in ("from", "to"))
 
@@ -65,4 +102,26 @@ class Routes:
         if (tracks := way(self.ways, begin, end, turn)) is None:
             raise self.wrong(index, "turnouts", f"no track leads from {begin.text} to {end.text} over the turnouts of "
                              f"route {given['number']}")
-        return {"tracks": tracks, "turnouts": [f"{bus} GA {address}" for bus, address in ports]}
+        if "signal" in given:
+            self.passes(index, given, {node.text: side for node, side in leaves(self.ways, begin, tracks).items()})
+        return {"tracks": tracks}
+
+    def passes(self, index: int, given: dict[str, Any], left: dict[str, int]) -> None:
+        """Notes to which side a route passes its signal. `left`: the sides by which it leaves its elements."""
+        for signal in self.elements.signals(*given["signal"][:2]):
+            if signal.node.text not in left:
+                continue
+            to = RIGHT if left[signal.node.text] in TO_THE_RIGHT else LEFT
+            self.passed.setdefault(signal.node.text, set()).add(to)
+            if signal.to not in (None, to):
+                raise self.wrong(index, "signal", f"route {given['number']} passes {signal.node.text} to the {to}, and "
+                                 f"not to the {signal.to}")
+
+
+def devices_of(given: dict[str, Any]) -> dict[str, Any]:
+    """Returns what the page is told of the devices of a route: the port of each turnout, the blocks, and the port by
+    which the signal shows go."""
+    signal = given.get("signal")
+    return {"turnouts": {f"{bus} GA {address}": port for bus, address, port in given.get("turnouts", [])},
+            "blocks": [f"{bus} FB {address}" for bus, address in given.get("blocks", [])],
+            "signal": {"key": f"{signal[0]} GA {signal[1]}", "go": signal[2]} if signal else None}

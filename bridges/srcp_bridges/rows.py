@@ -65,7 +65,36 @@ KINDS: dict[tuple[str, str | int], Callable[..., Row]] = {
 BACKWARD = 0
 FORWARD = 1
 EMERGENCY_STOP = 2
+# Texts of POWER. A STOP ALL is told by its text alone, with the power as it is; its driver answers once all stood.
+STOP_ALL = "stop all"
+ALL_STOOD = "all stood"
+NO_STATION = "no station"
+NO_DRIVER = "no driver"
+UNCONFIRMED = "does not confirm:"  # and the addresses of locomotives
+CONFIRMED = "confirms again"
+THROWN = "thrown by hand:"  # and the address of a locked turnout, and the port to which it leads now
+OF_DRIVERS = (ALL_STOOD, NO_STATION, NO_DRIVER, UNCONFIRMED, CONFIRMED, THROWN, "server was away", "station was reset",
+              "station says off", "programming", "overload")
 NOT_SRCP = (ValueError, KeyError, IndexError, TypeError)  # what reading a line raises that the server does not send
+
+
+def is_of_driver(text: str) -> bool:
+    """Returns whether a text of POWER is one that a driver alone sets."""
+    return text.startswith(OF_DRIVERS)
+
+
+def switches(power: Power) -> bool:
+    """Returns whether a row of power that is on may switch it on: not if its text alone was to be told."""
+    return power.text not in (STOP_ALL, ALL_STOOD, CONFIRMED) and not power.text.startswith((UNCONFIRMED, THROWN))
+
+
+def may_drive(power: Power | None) -> bool:
+    """Returns whether trains may drive after a STOP ALL, as far as the driver of a bus tells by its power. A text that
+    others set tells nothing of the track: the driver may sleep."""
+    if not power or power.text == ALL_STOOD:
+        return False
+    is_told = is_of_driver(power.text) and not power.text.startswith((NO_STATION, NO_DRIVER, UNCONFIRMED))
+    return power.on or not is_told
 
 
 class Refused(Exception):

@@ -1,5 +1,5 @@
 // What this page asks of web.py, and what it says of a refusal.
-import { done, stopSent, tell } from "./bar.js";
+import { done, stood, tell } from "./bar.js";
 import { devices, name, redraw } from "./layout.js";
 import { sentence, text } from "./texts.js";
 
@@ -58,7 +58,7 @@ export async function stopAll() {
     const late = setTimeout(() => failed(sentence("no answer", text("layout"))), LATE);
     const { reply, faults = [] } = await post("/stop");
     clearTimeout(late);
-    if (reply === "200 OK") return stopSent();
+    if (reply === "200 OK") return stood([]);
     const why = faults.map(([key, reply]) => sentence(reply, name(key))).join(" ") || sentence(reply, text("layout"));
     failed(why);
     await new Promise(then => setTimeout(then, 500));

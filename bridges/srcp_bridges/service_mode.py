@@ -52,6 +52,10 @@ class ServiceMode:
         self.port = port
         self.begun: set[int] = set()
 
+    def is_there(self, bus: int) -> bool:
+        """Returns whether a driver programs decoders for this bus, and one alone."""
+        return len(doors(self.port, bus)) == 1
+
     async def answer(self, command: str, bus: int, words: list[str]) -> str | None:
         """Returns the answer to a line; None if there is no driver, or more than one: the server then refuses it."""
         if len(found := doors(self.port, bus)) != 1:

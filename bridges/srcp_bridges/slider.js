@@ -8,6 +8,7 @@ const THUMB = 16;                               // pixels that the thumb of the 
 
 export class Slider {
   #grip = null;                                 // of the pointer that is down: its id, where, and the value it took
+  #fingers = new Set();                         // that are on it: of two, which pinch, none drives
 
   constructor(input, moved, now) {              // now: the value that the registry has
     this.input = input;
@@ -18,8 +19,8 @@ export class Slider {
     this.rail.onmousedown = e => e.preventDefault();  // or the focus would leave the slider
     this.rail.onpointerdown = e => this.#down(e);
     this.rail.onpointermove = e => this.#follow(e);
-    this.rail.onpointerup = e => this.#has(e) && this.release();
-    this.rail.onpointercancel = e => this.#has(e) && this.#cancel();
+    this.rail.onpointerup = e => { this.#fingers.delete(e.pointerId); if (this.#has(e)) this.release(); };
+    this.rail.onpointercancel = e => { this.#fingers.delete(e.pointerId); if (this.#has(e)) this.#cancel(); };
   }
 
   get held() { return this.#grip?.from !== undefined; }
@@ -33,6 +34,9 @@ export class Slider {
   }
 
   #down(e) {
+    if (e.isPrimary) this.#fingers.clear();     // it is the first one on the screen
+    if (e.pointerType !== "mouse") this.#fingers.add(e.pointerId);
+    if (this.#fingers.size > 1) return this.#cancel();
     if (this.input.disabled || e.button) return;
     this.release();
     this.#grip = { id: e.pointerId, x: e.clientX, y: e.clientY };
@@ -74,9 +78,10 @@ export class Slider {
     if (this.input.value !== before) this.moved(+this.input.value);
   }
 
-  // The browser scrolls, or has taken the finger away: what it made faster is put back, and nothing is made faster.
+  // The browser scrolls or has taken the finger away, or another finger has come: what it made faster is put back, and
+  // nothing is made faster.
   #cancel() {
-    const from = Math.min(this.#grip.from, this.now());  // another may have made it slower meanwhile
+    const from = Math.min(this.#grip?.from, this.now());  // another may have made it slower meanwhile
     this.release();
     if (from < +this.input.value) this.#set(from);
   }

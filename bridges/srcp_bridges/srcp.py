@@ -2,17 +2,19 @@
 import asyncio
 import contextlib
 import socket
-from collections import deque
+from collections import defaultdict, deque
 
 from srcp_bridges.program import Wrong, say
-from srcp_bridges.rows import EMERGENCY_STOP, FORWARD, NOT_SRCP, Change, Refused, Rows, devices, keys_of, parse
-from srcp_bridges.state import SELF
+from srcp_bridges.rows import (EMERGENCY_STOP, FORWARD, NOT_SRCP, STOP_ALL, Change, Drive, Power, Refused, Rows,
+                               devices, is_of_driver, keys_of, parse)
+from srcp_bridges.state import SELF, driven
 from srcp_bridges.stop import Stops
 
 ANSWER = 3.0  # seconds within which the server answers; later it counts as gone
 BEAT = 2.0  # seconds between two questions that show whether it is there
 MOMENT = 0.3  # seconds until it is asked for the rows of before that were not listed again
 SOON = 0.01  # seconds until it is looked again whether the panel has told a row
+RECENT = 40  # rows of a locomotive that are looked through for one with speed 0
 LONGEST = 4096  # bytes without an end of line; the server sends 126 at most
 
 
@@ -124,8 +126,9 @@ class Mirror:
     `told` is called with each Change, `joined` with whether the server was started anew, `left` when it is gone. After
     a restart all rows of before go; after an overrun those that the server has not. Rows listed as before are not told.
     `here`: its panel is open. `anew`: the server that it lists was started anew. `ways` has the direction that each
-    locomotive was told last, by (bus, address), and `stops` how often it was stopped. With `keeps_place` it has a
-    connection more, for a panel that is lost while the server is full.
+    locomotive was told last, by (bus, address), `recent` its last rows, and `stops` how often it was stopped. `drivers`
+    has the buses whose power had a text that a driver sets. With `keeps_place` it has a connection more, for a panel
+    that is lost while the server is full.
     """
 
     def __init__(self, asked, told=lambda change: None, joined=lambda anew: None, left=lambda: None, keeps_place=False):
@@ -140,7 +143,9 @@ class Mirror:
         self.left = left
         self.rows = Rows()
         self.ways = {}
+        self.recent: defaultdict[tuple[int, int], deque[Drive]] = defaultdict(lambda: deque(maxlen=RECENT))
         self.stops = Stops()
+        self.drivers: set[int] = set()
         self.stale = {}
         self.session: Session | None = None
 
@@ -165,6 +170,7 @@ class Mirror:
         except ConnectionError:
             pass  # that server is gone
         self.anew, session = True, await self.begin()
+        self.drivers.clear()
         for device in reversed(devices(self.rows)):  # so sessions go last, as at the server
             self.drop(device)
         self.session = session
@@ -240,6 +246,12 @@ class Mirror:
             await asyncio.sleep(SOON)
         return self.way(bus, address) if row.mode == EMERGENCY_STOP else row.mode
 
+    def has_stood(self, bus: int, address: int, since: Drive) -> bool:
+        """Returns whether the panel has told that a locomotive stood after it had that row, which the server told."""
+        told = list(self.recent[bus, address])
+        later = told[told.index(since) + 1:] if since in told else [row for row in told if row.stamp > since.stamp]
+        return any(not row.v for row in later)
+
     async def get(self, key):
         """Returns the row that the server has at this moment, or None. It tells no row whose part is `is`."""
         bus, group, address, part = key
@@ -261,6 +273,13 @@ class Mirror:
                 return False
         return True
 
+    async def catches_up(self, device):
+        """Waits until the panel has told all that a device does: it may be late."""
+        ends = asyncio.get_running_loop().time() + ANSWER
+        with contextlib.suppress(OSError):  # the server is gone
+            while self.here and asyncio.get_running_loop().time() < ends and not await self.shows(device):
+                await asyncio.sleep(SOON)
+
     def take(self, line):
         """Takes in what a line of the panel tells."""
         try:
@@ -273,15 +292,29 @@ class Mirror:
         if key not in self.stale or before != row:  # one that is listed again as it was is no change
             if key[1::2] == ("GL", "does"):
                 self.drives(key[0], key[2], row)
+            elif isinstance(row, Power):
+                self.powers(key[0], row)
             self.told(Change(row.stamp, key, row, before))
         self.stale.pop(key, None)
 
     def drives(self, bus, address, row):
         """Notes the direction of a locomotive, or that it was stopped."""
+        self.recent[bus, address].append(row)
         if row.mode == EMERGENCY_STOP:
             self.stops.stopped(bus, address)
         else:
             self.ways[bus, address] = row.mode
+
+    def powers(self, bus: int, row: Power) -> None:
+        """Notes that all were stopped, or that the bus has a driver."""
+        if row.text == STOP_ALL:
+            self.stops.stopped_all(bus)
+        elif is_of_driver(row.text):
+            self.drivers.add(bus)
+
+    def driven(self) -> set[int]:
+        """Returns the buses that have a driver: of this machine, or as far as this mirror was told."""
+        return self.drivers | driven(self.server[1])
 
     def drop(self, device, stamp=None):
         """Takes out all rows of a device."""

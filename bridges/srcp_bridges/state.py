@@ -6,6 +6,7 @@ import atexit
 import json
 import os
 import sys
+from collections.abc import Iterator
 from pathlib import Path
 
 
@@ -16,21 +17,34 @@ def folder() -> Path:
     return Path(os.environ.get("XDG_RUNTIME_DIR") or Path.home() / ".local" / "state", "srcp_bridges")
 
 
-def stations(port: int) -> list[dict]:
-    """Returns what the drivers of this machine tell of their stations, if they are at the server of that port.
+def told_at(port: int) -> Iterator[dict]:
+    """Yields what the programs of this machine tell of themselves that have sessions at the server of that port.
 
     The folder of a unit goes as it ends. Another program may have been killed, and its file be left.
     """
     own = [file for file in folder().glob("*.json") if Path("/proc", file.stem).exists()]
-    found = []
     for file in [*Path("/run").glob("srcp_bridge_*/*.json"), *own]:
         try:
             told = json.loads(file.read_text())
-            if told["station"] and told["sessions"].get(str(port)):
-                found.append(told["station"])
+            if told["sessions"].get(str(port)):
+                yield told
         except (OSError, ValueError):
             pass  # it ended meanwhile, or belongs to somebody else
-    return found
+
+
+def stations(port: int) -> list[dict]:
+    """Returns what the drivers of this machine tell of their stations, if they are at the server of that port."""
+    return [told["station"] for told in told_at(port) if told["station"]]
+
+
+def names(port: int) -> dict[int, str]:
+    """Returns whose the sessions at the server of that port are, as far as programs of this machine tell."""
+    return {int(session): name for told in told_at(port) for session, name in told["sessions"][str(port)].items()}
+
+
+def driven(port: int) -> set[int]:
+    """Returns the buses of which a driver of this machine is at the server of that port."""
+    return {int(station["bus"]) for station in stations(port)}
 
 
 class State:

@@ -1,19 +1,25 @@
-"""Stopping: what counts as a stop, what is refused after it, and STOP ALL, for every program that has such a button."""
+"""Stopping: what counts as a stop, what is refused after it, and STOP ALL, for every program that has such a button.
+
+A STOP ALL is one fact of the registry: the text `stop all` of each bus's power. The driver of a bus has all stand as
+soon as it is told that, and says so by `all stood`. The rows of locomotives follow.
+"""
 import asyncio
 import contextlib
 from collections import Counter
 
-from srcp_bridges.rows import EMERGENCY_STOP, Drive, Refused
+from srcp_bridges.rows import EMERGENCY_STOP, STOP_ALL, Drive, Refused, may_drive
 
 SOON = 0.01  # seconds until it is looked again whether a command is still on its way
 SETTLED = 0.1  # seconds after a STOP ALL until what drives by a command that other programs had sent is stopped too
+CONFIRMS = 1.0  # seconds within which the drivers say that all stand
+UNSURE = "not confirmed: trains may drive"
 
 
 class Stops:
     """How often each locomotive was stopped, as far as this program knows. Counts rise, and never fall.
 
-    `due` has the rows to come of stops that are counted already. `under_way` has the commands to drive that wait for
-    their reply. Both are by (bus, address).
+    `due` has the rows to come of stops that are counted already; address 0 stands for all. `under_way` has the commands
+    to drive that wait for their reply. Both are by (bus, address).
     """
 
     def __init__(self):
@@ -48,6 +54,17 @@ class Stops:
             self.due[bus, address] -= 1
         else:
             self.each[bus, address] += 1
+
+    def stopped_all(self, bus: int) -> None:
+        """Counts a STOP ALL that a row tells."""
+        if self.due[bus, 0]:
+            self.due[bus, 0] -= 1
+        else:
+            self.all += 1
+
+    def is_all_due(self) -> bool:
+        """Returns whether a row of a STOP ALL that is ordered here is still to come."""
+        return any(count for (_, address), count in self.due.items() if not address)
 
     @contextlib.contextmanager
     def driving(self, bus, address, seen):
@@ -124,24 +141,66 @@ def faults(locomotives, replies):
 
 
 async def stop_all(mirror, holders=None):
-    """Has all locomotives that drive make an emergency stop, at once.
+    """Has all stand: tells each driver so at once, and has all locomotives that drive make an emergency stop.
 
     If another session has one locked, its bus's power goes off. `holders` has sessions by their ids: they command what
-    they have locked. Returns what could not be stopped.
+    they have locked. Returns what could not be stopped, and which drivers have not confirmed that all stand.
     """
     if holders is None:
         holders = {}
     with mirror.stops.stopping_all():
         if not mirror.session or mirror.session.ended.done():
             return ["the server is away"]
-        cut: dict[int, asyncio.Task] = {}
         under_way = {locomotive for locomotive, commands in mirror.stops.under_way.items() if commands}
-        refusals = await stop_those(mirror, holders, cut, driving(mirror, not mirror.here) | under_way)
+        first = driving(mirror, not mirror.here) | under_way
+        cut = {bus: asyncio.create_task(tell_stop(mirror, bus, False)) for bus in locked(mirror, holders, first)}
+        told = [asyncio.create_task(tell_stop(mirror, bus, row.on))
+                for (bus, group, *_), row in mirror.rows.items() if group == "POWER" and bus not in cut]
+        refusals = await stop_those(mirror, holders, cut, first)
+        await asyncio.gather(*told, *cut.values(), return_exceptions=True)
         while any(mirror.stops.under_way.values()):
             await asyncio.sleep(SOON)
         await asyncio.sleep(SETTLED)
-        again = {locomotive for locomotive in driving(mirror) | under_way if locomotive[0] not in cut}
-        return refusals + await stop_those(mirror, holders, cut, again)
+        await catches_up(mirror)
+        refusals += await stop_those(mirror, holders, {}, driving(mirror) | under_way)
+        return refusals + [f"{bus} POWER: {UNSURE}" for bus in await unsure(mirror)]
+
+
+def locked(mirror, holders, locomotives):
+    """Returns the buses on which another session has one of these locomotives locked."""
+    locks = {locomotive: mirror.rows.get((locomotive[0], "GL", locomotive[1], "lock")) for locomotive in locomotives}
+    return {bus for (bus, _), lock in locks.items() if lock and lock.session not in (*holders, mirror.session.id)}
+
+
+async def tell_stop(mirror, bus, on):
+    """Tells all who follow a bus, its driver first of all, that all are to stand."""
+    mirror.stops.due[bus, 0] += 1
+    try:
+        await mirror.session.ask(f"SET {bus} POWER {'ON' if on else 'OFF'} {STOP_ALL}")
+    except BaseException:
+        mirror.stops.due[bus, 0] -= 1  # no row comes of it
+        raise
+
+
+async def catches_up(mirror) -> None:
+    """Waits until the panel has told the STOP ALL, so all that drove before it too: it may be late."""
+    ends = asyncio.get_running_loop().time() + CONFIRMS
+    while mirror.here and mirror.stops.is_all_due() and asyncio.get_running_loop().time() < ends:
+        await asyncio.sleep(SOON)
+
+
+async def unsure(mirror) -> list[int]:
+    """Waits until the drivers have confirmed the last STOP ALL; returns the buses of those that do not in time."""
+    ends = asyncio.get_running_loop().time() + CONFIRMS
+    late = sorted(mirror.driven())
+    try:
+        while late := [bus for bus in late if may_drive(await mirror.get((bus, "POWER", 0, "does")))]:
+            if asyncio.get_running_loop().time() > ends:
+                break
+            await asyncio.sleep(SOON)
+    except ConnectionError:
+        pass  # who knows how trains drive is away
+    return late
 
 
 def driving(mirror, all_of_them=False):
@@ -163,7 +222,7 @@ async def stop_those(mirror, holders, cut, locomotives):
             if not str(reply).startswith("414"):
                 raise
             if bus not in cut:
-                cut[bus] = asyncio.create_task(mirror.session.ask(f"SET {bus} POWER OFF stop all"))
+                cut[bus] = asyncio.create_task(tell_stop(mirror, bus, False))
             await asyncio.shield(cut[bus])
 
     stops = [stop(*locomotive) for locomotive in locomotives]

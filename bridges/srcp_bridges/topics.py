@@ -11,6 +11,8 @@ FORMS = [re.compile(form) for form in (
     f"{NUMBER}/(GA)/{NUMBER}/([0-7]|position)", f"{NUMBER}_(POWER|GL|GA|FB)_{NUMBER}()")]
 COMMAND = re.compile(f"{NUMBER}/(POWER|FB/{NUMBER}|(GL|GA)/{NUMBER}/is|GA/{NUMBER}/([0-7]|position))")
 PULSE = 250  # milliseconds for which the port of a turnout is on
+# The speed in hundredths of the top, rounded up: what drives is not shown at 0.
+SHARE = "{{ -(-100 * value_json.v // value_json.v_max) if value_json.v_max else value_json.v }}"
 BITS = {"ON": "1", "OFF": "0", "TRUE": "1", "FALSE": "0"}
 
 Wanted = namedtuple("Wanted", "mode v v_max functions", defaults=(None, None, None, {}))  # None: as it is
@@ -43,12 +45,24 @@ def entity(rows, key, at):
     if group == "FB":
         return "binary_sensor", {"state_topic": at, "payload_on": "1", "payload_off": "0"}
     if (group, part) == ("GL", "does"):
-        share = "{{ 100 * value_json.v // value_json.v_max if value_json.v_max else value_json.v }}"
-        return "number", {"state_topic": at, "value_template": share, "command_topic": f"{at}/set", "max": 100,
-                          "unit_of_measurement": "%", "command_template": '{"v": {{ value | int }}, "v_max": 100}'}
+        return "number", {"state_topic": at, "value_template": SHARE, "command_topic": f"{at}/set",
+                          "command_template": '{"v": {{ value | int }}, "v_max": 100}', "min": 0, "max": 100,
+                          "unit_of_measurement": "%"}
     if group == "GA" and part != "lock":
         ports = [str(port) for port in range(8) if (bus, group, address, port) in rows]
         return "select", {"state_topic": f"{at}/position", "command_topic": f"{at}/position/set", "options": ports}
+
+
+def common(own: str, name: str, prefix: str) -> dict[str, object]:
+    """Returns what each announcement to Home Assistant has: its name, who sends it, and whether that is there."""
+    return {"name": name, "unique_id": f"{node(prefix)}_{own}", "availability_topic": f"{prefix}online",
+            "device": {"identifiers": [node(prefix)], "name": "Layout"}}
+
+
+def stop_button(prefix: str) -> tuple[str, str]:
+    """Returns the topic, and the payload, by which Home Assistant learns of a button STOP ALL."""
+    words = {"command_topic": f"{prefix}stop/set", "payload_press": "now", "icon": "mdi:alert-octagon"}
+    return f"button/{node(prefix)}/stop", json.dumps(words | common("stop", "STOP ALL", prefix))
 
 
 def announced(rows, key, prefix, names):
@@ -59,10 +73,9 @@ def announced(rows, key, prefix, names):
         return None
     kind, words = found
     own, name = f"{bus}_{group}_{address}", at.replace("/", " ")
-    words |= {"name": names.get(name, name), "unique_id": f"{node(prefix)}_{own}",
-              "availability_topic": f"{prefix}online", "device": {"identifiers": [node(prefix)], "name": "Layout"}}
     is_there = words["options"] if kind == "select" else key in rows
-    return f"{kind}/{node(prefix)}/{own}", json.dumps(words) if is_there else None
+    announcement = json.dumps(words | common(own, names.get(name, name), prefix)) if is_there else None
+    return f"{kind}/{node(prefix)}/{own}", announcement
 
 
 def device_of(place):

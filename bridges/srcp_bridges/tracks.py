@@ -104,6 +104,16 @@ def way(ways: Ways, begin: Node, goal: Node, turn: Turn) -> list[int] | None:
     return None
 
 
+def leaves(ways: Ways, begin: Node, tracks: list[int]) -> dict[Node, int]:
+    """Returns by which side each element on a way is left."""
+    node: Node | None = begin
+    left: dict[Node, int] = {}
+    for number in tracks:
+        if node:
+            left[node], node = next((side, way.node) for side, way in ways[node].items() if way.track == number)
+    return left
+
+
 def block(ways: Ways, sensor: Node, ends: Callable[[Node], bool]) -> list[int]:
     """Returns the tracks on which a sensor reports a train: from it to the next elements that end a block."""
     waiting, seen = [(sensor, side) for side in ways[sensor]], set()

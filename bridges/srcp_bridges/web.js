@@ -1,9 +1,10 @@
 // The page: what web.py tells it, and its head and forms.
-import { stopSent, tell } from "./bar.js";
+import { stood, stopSent, tell } from "./bar.js";
 import { $, called, devices, forget, leaveOut, name, redraw, remake, whenDrawn } from "./layout.js";
 import { halt, isOpen, open } from "./locomotives.js";
 import "./devices.js";
 import { drawPlan } from "./plan.js";
+import { unchoose } from "./routes.js";
 import { ask, drop, joined, post, stopAll } from "./server.js";
 import { otherLanguage, text, translate } from "./texts.js";
 
@@ -28,7 +29,9 @@ function counted(key, loco, stops) {
   loco.stops = stops;
 }
 
-const events = new EventSource("/events");
+// A web.py of other files than this page's has no such path: then this page loads itself anew, as that web.py has it.
+const events = new EventSource("/events?" + document.documentElement.dataset.version);
+document.body.classList.remove("plain");        // a browser without EventSource keeps the page as it came
 const on = (name, take) => events.addEventListener(name, e => take(JSON.parse(e.data)));
 let state = "joining", isHere = false;
 let here = false;                               // whether web.py has the server
@@ -65,6 +68,7 @@ on("stop", counts => {                          // a STOP ALL, whoever pressed i
   for (const [key, stops] of Object.entries(counts)) if (devices.has(key)) counted(key, devices.get(key), stops);
   stopSent();
 });
+on("stood", stood);                             // the buses whose drivers do not confirm it
 on("elsewhere", () => { events.close(); clearTimeout(deaf); shown("tooManyTabs", false); });
 async function again() {                        // once web.py answers, and has a place for this page
   const answer = await fetch("/").catch(() => null);
@@ -78,9 +82,10 @@ events.onerror = () => {
 
 // ---- the head: STOP ALL, find, how many there are
 
-$("stop").onclick = stopAll;
+$("halt").onsubmit = e => { e.preventDefault(); stopAll(); };
 document.addEventListener("keydown", e => {
   if (e.key !== "Escape") return;
+  if (unchoose()) return;                       // the next one stops all
   if (!e.target.matches("input:not([type=range])")) return stopAll();
   if (e.target === $("find")) $("find").value = "";
   e.target.blur();                              // the next one stops all

@@ -42,7 +42,7 @@ def case_of(kind, method):
         if result.stop:
             raise result.stop
 
-    case.__name__ = f"bridge_{kind.program}_{method.removeprefix('test_')}"
+    case.__name__ = f"bridge_{getattr(kind, 'named', kind.program)}_{method.removeprefix('test_')}"
     return case
 
 
@@ -52,29 +52,42 @@ def cases_of(*kinds):
 
 
 from .test_box import Box  # noqa: E402
+from .test_box_hands import BoxWithHands  # noqa: E402
 from .test_broker import MqttBesideOthers, MqttWithLimits, MqttWithTls  # noqa: E402
 from .test_chromium import WebInChromium, WebInGerman  # noqa: E402
+from .test_chromium_plain import WebWithoutAScript  # noqa: E402
 from .test_chromium_silence import WebWithBeats, WebWithSilence  # noqa: E402
+from .test_chromium_stop import WebWithADriverThatSleeps  # noqa: E402
 from .test_chromium_touch import WebByTouch  # noqa: E402
+from .test_confirmed import DccExTelling, Elsewhere, OfAwaited, Z21Telling  # noqa: E402
 from .test_dcc_ex import DccEx, DccExWithHands, DccExWithLosses, Simulated  # noqa: E402
-from .test_entrance import Entering, WebBesideManyConnections, WebInTheNetwork, WebWithAWord  # noqa: E402
 from .test_doctor import Doctor  # noqa: E402
+from .test_driving import Driving  # noqa: E402
+from .test_ends import DriverThatEnds, Ends  # noqa: E402
+from .test_entrance import Entering, WebBesideManyConnections, WebInTheNetwork, WebWithAWord, WebWithForms  # noqa: E402
 from .test_guard import Guard  # noqa: E402
 from .test_hands import HandsBeforeRows, HandsBeforeStops  # noqa: E402
 from .test_keep import Keep  # noqa: E402
+from .test_last_words import DccExLastWords, Speaking, Z21LastWords  # noqa: E402
 from .test_left_out import WebBesideADriver  # noqa: E402
 from .test_log import Log  # noqa: E402
-from .test_mqtt import (Mqtt, MqttForHomeAssistant, MqttWithAWrongBroker, MqttWithPersistence,  # noqa: E402
-                        Payloads)
+from .test_mqtt import Mqtt, MqttForHomeAssistant, MqttWithAWrongBroker, MqttWithPersistence, Payloads  # noqa: E402
 from .test_orders import Orders, Stopping  # noqa: E402
 from .test_phone_routes import WiThrottleWithRoutes  # noqa: E402
 from .test_phone_stops import WiThrottleStops, WiThrottleWithBeats  # noqa: E402
 from .test_plan import Plans  # noqa: E402
-from .test_plan_in_chromium import LargePlanInChromium, PlanInChromium, PlanInGerman  # noqa: E402
+from .test_plan_in_chromium import PlanInChromium, PlanInGerman, SignalsInChromium  # noqa: E402
+from .test_plan_size_in_chromium import LargePlanInChromium  # noqa: E402
 from .test_program import DccExWithPrograms, Programming, Z21WithPrograms  # noqa: E402
 from .test_readme import Readme  # noqa: E402
+from .test_real_stations import (DccEx4, DccEx5, DccEx52, DccExAtAMega, DccExWithLostCommands,  # noqa: E402
+                                 DccExWithTurnedBits, Z21Start, Z21WithDoubles, Z21WithShuffles)
+from .test_simulated import SimulatedDccEx, SimulatedZ21, WhatMoves  # noqa: E402
 from .test_srcp import Following, Parsing  # noqa: E402
 from .test_srcpd import Srcpd, SrcpdWithADriver  # noqa: E402
+from .test_stop_all import DccExStopAll, OfStopAll, Z21StopAll  # noqa: E402
+from .test_upgrade import WebOfOtherFiles, WebThatIsUpgraded  # noqa: E402
+from .test_watching import Watching  # noqa: E402
 from .test_web import Web, WebThatSleeps, WebWithManyPages, WebWithSilentPages  # noqa: E402
 from .test_withrottle import WiThrottle  # noqa: E402
 from .test_z21 import Z21, Z21WithHands, Z21WithLosses  # noqa: E402
@@ -86,5 +99,12 @@ BRIDGE_CASES = cases_of(Readme, Following, MqttWithAWrongBroker, Stopping, Mqtt,
                         Entering, WiThrottle, WiThrottleStops, WiThrottleWithBeats, WiThrottleWithRoutes, Srcpd,
                         SrcpdWithADriver, DccEx, DccExWithLosses, DccExWithHands, HandsBeforeRows, HandsBeforeStops,
                         Z21, Z21WithLosses, Z21WithHands, DccExWithPrograms, Z21WithPrograms, Programming, Doctor,
-                        Guard, Keep, Box, Log, Parsing, Plans, PlanInChromium, LargePlanInChromium, PlanInGerman,
-                        WebBesideADriver, Simulated)
+                        Guard, Keep, Box, BoxWithHands, Log, Parsing, Plans, PlanInChromium, LargePlanInChromium,
+                        PlanInGerman, SignalsInChromium,
+                        WebBesideADriver, Simulated, SimulatedDccEx, SimulatedZ21, WhatMoves, Watching, DccEx4,
+                        DccEx52, Z21WithDoubles, DccExStopAll, Z21StopAll, DccExLastWords, Z21LastWords, Speaking,
+                        OfStopAll,
+                        Ends, DriverThatEnds, WebOfOtherFiles, WebThatIsUpgraded, Driving, WebWithoutAScript,
+                        WebWithForms, Z21WithShuffles, DccExTelling, Z21Telling, OfAwaited, Elsewhere,
+                        WebWithADriverThatSleeps, DccEx5, DccExAtAMega, DccExWithLostCommands, DccExWithTurnedBits,
+                        Z21Start)

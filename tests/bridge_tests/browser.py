@@ -166,6 +166,14 @@ class Browser:
         meanwhile()
         self.call("Input.dispatchTouchEvent", type="touchCancel" if taken_away else "touchEnd", touchPoints=[])
 
+    def pinches(self, *pairs, pause=0.02):
+        """Has two fingers come down at the first of these pairs of points, move through the others, and go."""
+        for kind, pair in zip(["touchStart"] + ["touchMove"] * len(pairs), pairs):
+            points = [{"x": x, "y": y, "id": number} for number, (x, y) in enumerate(pair)]
+            self.call("Input.dispatchTouchEvent", type=kind, touchPoints=points)
+            time.sleep(pause)
+        self.call("Input.dispatchTouchEvent", type="touchEnd", touchPoints=[])
+
     def drags(self, *points):
         """Has the mouse press at the first of these points, move through the others, and let go."""
         for kind, (x, y) in zip(["mousePressed"] + ["mouseMoved"] * len(points), points):

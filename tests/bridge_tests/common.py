@@ -3,6 +3,7 @@ import contextlib
 import functools
 import itertools
 import os
+import re
 import signal
 import socket
 import subprocess
@@ -33,9 +34,11 @@ ga_max = 12
 ga_ports = 4
 fb_ports = 16
 """
+EXAMPLE_PLAN = TOP / "examples" / "plan.toml"
 WAIT = 60.0  # seconds that a busy machine may take
 folder = tempfile.TemporaryDirectory()  # gone at the end, with all that the tests write
 os.environ["XDG_RUNTIME_DIR"] = folder.name  # so there programs tell of themselves
+os.environ["XDG_STATE_HOME"] = folder.name  # and keep their word
 choosing = threading.Lock()
 sys.path[:0] = [str(PROGRAMS)]
 sys.path.append(PACKAGES)
@@ -75,6 +78,15 @@ def listener():
             return socket.create_server(("127.0.0.1", free_port()))
         except OSError:
             pass
+
+
+@functools.cache
+def plan_of_two_buses():
+    """The plan of the examples with its signals on bus 2, where each has four ports."""
+    text = re.sub(r"\[1, 1([123]), 1, 0\]", r"[2, \1, 2, 0]", EXAMPLE_PLAN.read_text())
+    path = Path(new_folder(), "plan.toml")
+    path.write_text(re.sub(r'"1 GA 1([123])"', r'"2 GA \1"', text))
+    return path
 
 
 def new_folder():
@@ -198,6 +210,15 @@ def stamped_lines(port):
 def rows(port):
     """The same lines without stamps."""
     return [line.partition(" ")[2] for line in stamped_lines(port)]
+
+
+def position_of(port, bus, number):
+    """How an accessory lies, as one sees that comes now."""
+    from srcp_bridges.rows import Rows, parse, position
+    found = Rows()
+    for line in stamped_lines(port):
+        found.enter(*parse(line))
+    return position(found, bus, number)
 
 
 def parsed(lines):

@@ -8,14 +8,12 @@ import sys
 import time
 from pathlib import Path
 
-from serving import comes_again
-
 from . import common
-from .common import (LAYOUT, PROGRAMS, TOP, WAIT, Case, Process, Session, free_port, is_full, new_folder, program, rows,
-                     sessions, until)
+from .common import (LAYOUT, PROGRAMS, TOP, WAIT, Case, Process, Session, free_port, is_full, new_folder,
+                     plan_of_two_buses, position_of, program, rows, sessions, until)
 from .test_web import Events
 
-PLAN = TOP / "examples" / "plan.toml"
+PLAN = plan_of_two_buses()
 STOPS = [f"100 INFO 2 GA {number} 0 1" for number in (1, 2, 3)]
 REST = (1, STOPS[0]), (2, STOPS[0]), (3, STOPS[1]), (4, STOPS[2])
 SETS = ["100 INFO 1 LOCK GA 1 0", "100 INFO 1 GA 1 0 1", "100 INFO 2 GA 1 2 1", "100 INFO 3 FB 1 1"]
@@ -24,7 +22,7 @@ GIVES_BACK = ["100 INFO 2 GA 1 0 1", "100 INFO 3 FB 1 0", "102 INFO 1 LOCK GA 1"
 
 class Box(Case):
     program = "box"
-    layout = LAYOUT + '[[bus]]\nnumber = 3\ngroups = ["GA", "FB"]\nga_max = 9\nfb_ports = 9\n'
+    layout = LAYOUT + '[[bus]]\nnumber = 3\ngroups = ["GA", "FB"]\nga_max = 9\nga_ports = 3\nfb_ports = 9\n'
 
     def begin(self):
         """Starts the box, and waits until it has put all to rest."""
@@ -152,18 +150,148 @@ class Box(Case):
         panel = self.follows()
         self.ask(1)
         time.sleep(0.3)
-        self.assertEqual([row for row in rows(self.server.port) if "LOCK" in row or row == "100 INFO 3 FB 1 1"], [])
+        self.lacks("100 INFO 1 LOCK", "100 INFO 3 FB 1 1")
         self.throttle.order("SET 1 FB 2 0")
         self.hears(panel, "100 INFO 1 FB 2 0", *SETS)
+
+    def test_a_block_that_fills(self):
+        """The signal of a set route is stopped as a train comes into its block. The route stays until it is given
+        back, and its signal shows go only once it is set again."""
+        self.begin()
+        self.ask(1)
+        self.is_set(1)
+        panel = self.follows()
+        self.throttle.order("SET 1 FB 2 1")
+        self.hears(panel, "100 INFO 1 FB 2 1", STOPS[0])
+        self.told("-- route 1: its signal is stopped, sensor 1 2 is occupied\n")
+        self.throttle.order("SET 1 FB 2 0", "SET 1 FB 2 1", "SET 1 FB 2 0")
+        time.sleep(0.5)
+        self.has(SETS[0], SETS[3])
+        self.assertEqual(position_of(self.server.port, 2, 1), 0)
+        self.give(1)
+        self.hears(panel, *GIVES_BACK)
+        self.ask(1)
+        self.hears(panel, *SETS)
+
+    def test_a_signal_that_is_stopped_by_hand(self):
+        """By port 2 of its route's accessory. The route keeps its locks, also if another one waits for its turnout, and
+        its signal shows go once it was given back and set anew."""
+        self.begin()
+        self.ask(1)
+        self.is_set(1)
+        self.ask(2)
+        panel = self.follows()
+        self.throttle.order("SET 3 GA 1 2 1 250", "SET 3 GA 3 2 1 250")  # route 3 is not set
+        self.hears(panel, "100 INFO 3 GA 1 2 1", STOPS[0])
+        self.told("-- route 1: its signal is stopped, by hand\n")
+        time.sleep(0.5)
+        self.has(SETS[0], SETS[3])
+        self.assertEqual([position_of(self.server.port, *key) for key in ((2, 1), (1, 1))], [0, 0])
+        self.give(1)
+        self.hears(panel, *GIVES_BACK, "100 INFO 3 FB 2 1")
+        self.give(2)
+        self.hears(panel, "100 INFO 3 FB 2 0")
+        self.ask(1)
+        self.hears(panel, *SETS)
+
+    def test_sensors_that_are_not_known(self):
+        """Those of a bus whose station does not answer, or whose driver is gone, are not free, whatever they were told
+        to be last."""
+        self.begin()
+        for why in ("no station", "no driver"):
+            self.ask(1)
+            self.is_set(1)
+            panel = self.follows()
+            self.throttle.order("SET 1 POWER ON", f"SET 1 POWER OFF {why}")
+            self.hears(panel, STOPS[0])
+            self.give(1), self.lacks("100 INFO 1 LOCK")
+            self.ask(1)
+            time.sleep(0.5)
+            self.lacks("100 INFO 1 LOCK", "100 INFO 3 FB 1 1")
+            self.throttle.order("SET 1 POWER OFF station says off")
+            self.hears(panel, "100 INFO 1 POWER OFF station says off", *SETS)
+            self.give(1), self.lacks("100 INFO 1 LOCK")
+        self.assertIn("-- bus 1: its sensors are not known\n", self.box.told())
+
+    def test_a_sensor_that_was_not_known_has_not_fallen(self):
+        self.begin()
+        self.ask(1)
+        self.is_set(1)
+        self.throttle.order("SET 1 FB 5 1", "SET 1 POWER ON", "SET 1 POWER OFF no station", "SET 1 FB 5 0",
+                            "SET 1 POWER OFF station says off")
+        self.told("-- bus 1: its sensors are known again\n")
+        time.sleep(0.3)
+        self.has(SETS[0], SETS[3])
+
+    def test_who_asks_again_as_a_route_is_given_back(self):
+        """Each ask counts, also one that comes as soon as anybody hears that the route was given back."""
+        self.begin()
+        panel = self.follows()
+        for _ in range(20):
+            self.ask(1)
+            self.hears(panel, "100 INFO 3 FB 1 1")
+            self.throttle.order("SET 1 FB 5 1", "SET 1 FB 5 0")
+            self.hears(panel, "100 INFO 3 FB 1 0")
+        for _ in range(20):
+            self.ask(1)
+            self.hears(panel, "100 INFO 3 FB 1 1")
+            self.throttle.order("SET 1 FB 5 1", "SET 1 FB 5 0", "SET 3 GA 1 1 1 250")
+            self.hears(panel, "100 INFO 3 FB 1 0", "100 INFO 3 FB 1 1")
+            self.assertEqual(position_of(self.server.port, 3, 1), 1)
+            self.give(1)
+            self.hears(panel, "100 INFO 3 FB 1 0")
+
+    def test_a_second_box(self):
+        """It waits, says why, and leaves all as it is; it begins once the first one has ended."""
+        self.begin()
+        self.ask(1)
+        self.is_set(1)
+        first, self.box = self.box, self.starts("box.py", "--plan", PLAN, "--program", common.SERVER, "--again", 0.2)
+        self.told("Does another box.py set the routes of this plan? This one waits\n")
+        [lock] = [row for row in rows(self.server.port) if row.startswith("100 INFO 2 LOCK GA 1 ")]
+        self.told(f"-- signal 2 1 is locked by session {lock.split()[-1]}. ")
+        time.sleep(0.5)
+        self.has(SETS[0], SETS[3])
+        self.assertEqual(position_of(self.server.port, 2, 1), 2)
+        self.assertNotIn("given back", first.told())
+        first.end(signal.SIGTERM)
+        self.told("-- none of 4 routes is set\n")
+        self.ask(1)
+        self.is_set(1)
+
+    def test_signals_are_those_of_the_box(self):
+        """Nobody else shows one or takes it out, and none has a port left at 1 that shows go to who comes later."""
+        self.throttle.order("INIT 2 GA 3 N", "SET 2 GA 3 2 1 -1")
+        self.begin()
+        self.has("100 INFO 2 GA 3 2 0")
+        for command in ("SET 2 GA 3 2 1 250", "SET 2 GA 3 0 1 250", "TERM 2 GA 3", "SET 2 LOCK GA 3 0"):
+            self.assertEqual(self.throttle.ask(command), "414 ERROR device locked", command)
+
+    def test_turnouts_take_their_time(self):
+        """A signal shows go, and a route is set, only once its station can have moved each turnout."""
+        plan = Path(new_folder(), "plan.toml")
+        plan.write_text("bus = 3\n[[route]]\nnumber = 1\nsignal = [2, 1, 2, 0]\n"
+                        f"turnouts = {[[1, address, 1] for address in range(1, 5)]}\n")
+        self.box = self.starts("box.py", "--plan", plan, "--program", common.SERVER, "--turnout-pace", 4)
+        self.told("-- none of 1 routes is set\n")
+        panel = self.follows()
+        self.ask(1)
+        self.hears(panel, "100 INFO 1 GA 1 1 1")
+        began = time.monotonic()
+        self.hears(panel, "100 INFO 1 GA 4 1 1")
+        self.assertGreater(time.monotonic() - began, 0.7)
+        self.hears(panel, "100 INFO 2 GA 1 2 1")
+        self.assertGreater(time.monotonic() - began, 0.95)
+        self.hears(panel, "100 INFO 3 FB 1 1")
 
     def test_a_train_gives_its_route_back(self):
         """Its accessory lies then as that of a route that was given back, so no display shows that it waits."""
         self.begin()
         panel = self.follows()
         self.ask(1)
-        self.throttle.order("SET 3 GA 1 1 1 -1", "SET 1 FB 1 1")
+        self.throttle.order("SET 3 GA 1 1 1 -1", "SET 1 FB 5 1")
         self.hears(panel, *SETS)
-        self.throttle.order("SET 1 FB 1 0")
+        self.throttle.order("SET 1 FB 5 0")
         self.hears(panel, *GIVES_BACK)
         self.has("100 INFO 3 GA 1 1 0")
         self.lies_back(1)
@@ -186,16 +314,22 @@ class Box(Case):
         self.ask(2)
         self.is_set(2, 3)
 
-    def test_a_signal_that_another_has_locked(self):
-        """The route goes back. One whose signal cannot be stopped stays, until it is given back once more."""
+    def test_a_turnout_that_was_removed(self):
+        """It is made again as a route locks it."""
         self.begin()
-        self.throttle.order("SET 2 LOCK GA 1 0")
+        self.throttle.order("TERM 1 GA 1")
         self.ask(1)
-        self.told("".join(f"-- SET 2 GA 1 {port} 1 250: 414 ERROR device locked\n" for port in (2, 0)))
-        self.has("100 INFO 1 LOCK GA 1 0")
-        self.throttle.order("TERM 2 LOCK GA 1")
-        self.give(1)
-        self.lacks("100 INFO 1 LOCK")
+        self.is_set(1)
+        self.has("101 INFO 1 GA 1 N", "100 INFO 1 GA 1 0 0")
+
+    def test_a_signal_that_another_has_locked(self):
+        """The box waits for it, and locks none meanwhile."""
+        self.throttle.order("INIT 2 GA 2 N", "SET 2 LOCK GA 2 0")
+        self.box = self.starts("box.py", "--plan", PLAN, "--program", common.SERVER, "--again", 0.2)
+        self.told("-- signal 2 2 is locked by session ")
+        until(lambda: not [row for row in rows(self.server.port) if "2 LOCK GA 1" in row], "no other signal is locked")
+        self.throttle.order("TERM 2 LOCK GA 2")
+        self.told("-- none of 4 routes is set\n")
         self.ask(1)
         self.is_set(1)
 
@@ -237,7 +371,7 @@ class Box(Case):
             self.restart()
             self.signals_are_stopped()
             time.sleep(0.3)
-            self.assertEqual([row for row in rows(self.server.port) if "LOCK" in row], [])
+            self.lacks("100 INFO 1 LOCK")
             self.ask(1)
             self.is_set(1)
 
@@ -256,7 +390,7 @@ class Box(Case):
         for number in (1, 3):
             self.lies_back(number)
         time.sleep(0.3)
-        self.assertEqual([row for row in rows(self.server.port) if "LOCK" in row], [])
+        self.lacks("100 INFO 1 LOCK")
         self.ask(1)
         self.is_set(1)
 
@@ -331,6 +465,24 @@ class Box(Case):
             about = f"--program {other}" if other == "no" else f"--plan {plan}"
             self.assertRegex(box.told(), rf"\A-- {about}: .*\n\Z")
 
+    def test_a_plan_that_the_page_refuses(self):
+        """It ends with the line of the fault, as web.py does."""
+        plan = Path(new_folder(), "plan.toml")
+        plan.write_text(PLAN.read_text().replace("blocks = [[1, 2]]", "block = [[1, 2]]"))
+        box = program("box.py", "--plan", plan, "--program", common.SERVER)
+        self.assertEqual(box.process.wait(WAIT), 2)
+        self.assertRegex(box.told(), rf"\A-- --plan {plan}: line \d+: block is no key of a route: .*\n\Z")
+
+    def test_a_sensor_that_the_server_does_not_have(self):
+        """It names the plan and the sensor: one of a block, one that frees a route, or that of a route itself."""
+        for keys, sensor, bus in (("blocks = [[1, 33]]", 33, 1), ("frees = [9, 1]", 1, 9), ("", 10, 3)):
+            plan = Path(new_folder(), "plan.toml")
+            plan.write_text(f"bus = 3\n[[route]]\nnumber = {sensor if bus == 3 else 1}\n{keys}\n")
+            box = self.starts("box.py", "--plan", plan, "--program", common.SERVER)
+            self.assertEqual(box.process.wait(WAIT), 2)
+            self.assertTrue(box.told().endswith(f"-- --plan {plan}: the server has no sensor {sensor} on bus {bus}\n"),
+                            box.told())
+
     def test_a_bus_that_the_server_does_not_have(self):
         """It names the plan, and the bus of the routes, that of a turnout or that of a signal."""
         for bus, of_routes, of_turnout, of_signal in (7, 7, 1, 2), (8, 3, 8, 2), (9, 3, 1, 9):
@@ -341,13 +493,3 @@ class Box(Case):
             self.assertEqual(box.process.wait(WAIT), 2)
             said = f"-- server: joined, started anew\n-- --plan {plan}: bus {bus}: the server has no such bus\n"
             self.assertEqual(box.told(), said)
-
-
-def position_of(port, bus, number):
-    """How an accessory lies, as one sees that comes now."""
-    from srcp_bridges.rows import Rows, parse, position
-    found, panel = Rows(), comes_again(lambda: Session(port, "INFO"))
-    for line in panel.hears_until(b" 100 INFO 3 FB 9 0\n").decode().splitlines():
-        found.enter(*parse(line))
-    panel.close()
-    return position(found, bus, number)

@@ -160,7 +160,7 @@ class WebInChromium(ChromiumCase):
         self.js("document.getElementById('stop').click()")
         until(lambda: self.told() == ["All locomotives stand.", ""], "the page says so")
         track = self.js("document.getElementById('track').innerText")
-        self.assertEqual(track, "Power 1 is off: STOP ALL cut it, since another throttle has a train.")
+        self.assertEqual(track, "Power 1 is off: STOP ALL cut it, for another throttle's train or at the station.")
         time.sleep(0.5)  # the reply comes behind what the page is told, and has the bar look once more
         self.throttle.order("SET 1 POWER ON")
         self.bar_ends()

@@ -62,6 +62,49 @@ class WebByTouch(ChromiumCase):
         self.assertIn(self.js(f"{FINGER}({slider}, [[12, 0], [82, 0]])"), range(3, 10))
         until(lambda: 3 <= self.speed(3) <= 9, "a finger that moves sideways drives")
 
+    def test_in_chromium_two_fingers_on_one_slider(self):
+        """They pinch, and drive nothing: nor does the one of them that stays. One that comes to a finger that drives
+        leaves the train no faster. On two sliders each finger drives, and so does the next one on the first."""
+        self.drives(GL3=(1, 0), GL4=(1, 0), GL5=(1, 14))
+        self.browser.shows(390, 844, phone=True)
+        self.opens("1 GL 3", "1 GL 4", "1 GL 5")
+        sliders = {address: f"{self.card(f'1 GL {address}')}.querySelector('input')" for address in (3, 4, 5)}
+
+        def touches(kind, *points):
+            points = [{"x": x, "y": y, "id": number} for number, x, y in points]
+            self.browser.call("Input.dispatchTouchEvent", type=f"touch{kind}", touchPoints=points)
+            time.sleep(0.02)
+
+        x, y = self.browser.place(sliders[3])
+        touches("Start", (0, x - 5, y)), touches("Start", (0, x - 5, y), (1, x + 5, y))
+        for step in range(1, 9):
+            touches("Move", (0, x - 5 - step * 8, y), (1, x + 5 + step * 8, y))
+        touches("End", (1, x + 69, y))
+        for step in range(8):
+            touches("Move", (1, x + 69 + step * 3, y))
+        touches("End")
+        time.sleep(0.5)
+        self.assertEqual(self.speed(3), 0)
+
+        x, y = self.browser.place(sliders[5])
+        touches("Start", (0, x, y))
+        for step in range(9):
+            touches("Move", (0, x + step * 8, y))
+        until(lambda: self.speed(5) > 16, "one finger drives")
+        touches("Start", (0, x + 64, y), (1, x - 20, y))
+        touches("Move", (0, x + 80, y), (1, x - 40, y))
+        touches("End")
+        until(lambda: self.speed(5) == 14, "two drive no faster")
+
+        (x, y), (_, other) = self.browser.place(sliders[3], 0.3), self.browser.place(sliders[4], 0.3)
+        _, y = self.js(f"(r => [0, r.top + r.height / 2])({sliders[3]}.getBoundingClientRect())")
+        touches("Start", (0, x, y)), touches("Start", (0, x, y), (1, x, other))
+        for step in range(9):
+            touches("Move", (0, x + step * 8, y), (1, x + step * 8, other))
+        touches("End")
+        until(lambda: self.speed(3) and self.speed(4), "each of two sliders has its finger")
+        self.assertEqual(self.browser.faults, [])
+
     def test_in_chromium_a_finger_beside_another_throttle(self):
         """One that the browser takes away leaves the train no faster than the other has it drive."""
         self.drives(GL5=(1, 14))

@@ -1,5 +1,6 @@
 """Who may see the page of web.py: words, cookies, connections, and names of this machine."""
 import http.client
+import os
 import re
 import socket
 import tempfile
@@ -7,7 +8,7 @@ import time
 import unittest
 from pathlib import Path
 
-from .common import WAIT, until
+from .common import PACKAGES, WAIT, new_folder, until
 from .test_web import Events, WebCase
 
 
@@ -49,22 +50,30 @@ class Entering(unittest.TestCase):
         from srcp_bridges.hosts import is_own, to_type
         with tempfile.NamedTemporaryFile("w", suffix=".conf") as file:
             file.write("# search evil.example\nnameserver 192.168.178.1\n"
-                       "SEARCH Fritz.Box lan.\nsearch .\ndomain home.arpa\n")
+                       "SEARCH Club.example shed.\nsearch .\ndomain attic.example\n")
             file.flush()
 
             def own(host, name="MyLayout"):
                 return is_own(host, name, Path(file.name))
 
-            for host in ("mylayout", "MYLAYOUT:8303", "mylayout.", "mylayout.local", "MyLayout.fritz.box:80",
-                         "mylayout.fritz.box.", "mylayout.lan", "mylayout.home.arpa", "localhost:8303", "127.0.0.1",
-                         "[::1]:8303", "[fd00::1]"):
+            for host in ("mylayout", "MYLAYOUT:8303", "mylayout.", "mylayout.local", "MyLayout.club.example:80",
+                         "mylayout.club.example.", "mylayout.shed", "mylayout.attic.example", "localhost:8303",
+                         "127.0.0.1", "[::1]:8303", "[fd00::1]"):
                 self.assertTrue(own(host), host)
-            for host in ("", "evil.example", "mylayout.evil.example", "other.fritz.box", "fritz.box",
-                         "mylayout.fritz.box.evil.example", "localhost.evil.example", "mylayoutfritz.box",
+            for host in ("", "evil.example", "mylayout.evil.example", "other.club.example", "club.example",
+                         "mylayout.club.example.evil.example", "localhost.evil.example", "mylayoutfritz.box",
                          "127.0.0.1.evil.example"):
                 self.assertFalse(own(host), host)
             self.assertTrue(own("shed.club.example", "shed.club.example"))
-            self.assertFalse(is_own("mylayout.fritz.box", "mylayout", Path("/nowhere")))
+
+        def in_any(host):
+            return is_own(host, "vm", Path("/nowhere"))
+
+        for suffix in ("local", "fritz.box", "lan", "home", "home.arpa", "internal", "localdomain"):
+            self.assertTrue(in_any(f"vm.{suffix}") and in_any(f"VM.{suffix.upper()}.:8303"), suffix)
+            self.assertFalse(in_any(f"other.{suffix}") or in_any(suffix) or in_any(f"vm.{suffix}.evil.example"), suffix)
+        for host in ("vm.box", "vm.evil.box", "vm.fritz.box.evil.example", "vm.evil.fritz.box", "vm.club.example"):
+            self.assertFalse(in_any(host), host)
         self.assertEqual([to_type(bind) for bind in ("127.0.0.1", "::1", "shed")], ["127.0.0.1", "[::1]", "shed"])
         self.assertNotIn(to_type("0.0.0.0"), ("0.0.0.0", ""))
         self.assertNotIn(to_type("::"), ("::", "[::]", ""))
@@ -94,6 +103,7 @@ class WebWithAWord(WebCase):
         page.key = "none"
         for path in ("/command", "/stop", "/alive", "/function"):
             self.assertEqual(page.post("SET 1 POWER ON", path), "401")
+        self.assertEqual(page.post("", "/stop", **{"X-Page": None, "Cookie": "srcp_browser=1"}), "401")
         for wrong in ("", "x", self.word.upper() + "x"):
             self.assertEqual(self.enters(wrong)[0], 401)
         self.assertEqual(self.get("/", Cookie="srcp_word_1=x")[0].status, 401)  # of another web.py on this machine
@@ -126,6 +136,33 @@ class WebWithAWord(WebCase):
         self.assertEqual(page.post("SET 1 POWER ON"), "200 OK")
 
 
+class WebWithForms(WebCase):
+    def sends(self, **headers):
+        """The answer to a form that a browser sends, and its text."""
+        connection = http.client.HTTPConnection("127.0.0.1", self.port, timeout=WAIT)
+        headers |= {"Content-Type": "application/x-www-form-urlencoded"}
+        connection.request("POST", "/stop", "", {name.replace("_", "-"): value for name, value in headers.items()})
+        answer = connection.getresponse()
+        return answer.status, answer.read().decode()
+
+    def test_stop_all_by_a_form(self):
+        """It is of a page of ours, and of no other site: that has no cookie, and a browser tells whose it is."""
+        self.throttle.order("INIT 1 GL 3 N 1 28 0", "SET 1 GL 3 1 9 28")
+        self.has("100 INFO 1 GL 3 1 9 28")
+        cookie = self.get("/")[0].headers["Set-Cookie"]
+        self.assertIn("SameSite=Strict", cookie)
+        cookie = cookie.partition(";")[0]
+        for status, headers in ((404, {}), (403, {"Cookie": cookie, "Origin": "http://evil.example"}),
+                                (403, {"Cookie": cookie, "Origin": "null"}),
+                                (403, {"Cookie": cookie, "Sec_Fetch_Site": "cross-site"}),
+                                (403, {"Cookie": cookie, "Host": "evil.example"})):
+            self.assertEqual(self.sends(**headers)[0], status, headers)
+        self.has("100 INFO 1 GL 3 1 9 28")
+        status, text = self.sends(Cookie=cookie, Origin=f"http://127.0.0.1:{self.port}", Sec_Fetch_Site="same-origin")
+        self.assertEqual((status, "All locomotives stand." in text), (200, True))
+        self.has("100 INFO 1 GL 3 1 0 28")
+
+
 class WebInTheNetwork(WebCase):
     words = ("--bind", "0.0.0.0")
 
@@ -135,6 +172,27 @@ class WebInTheNetwork(WebCase):
         connection = http.client.HTTPConnection(host, self.port, timeout=WAIT)
         connection.request("GET", "/")
         self.assertEqual(connection.getresponse().status, 401)
+
+
+    def test_how_a_phone_finds_the_page(self):
+        """By a word that is the same at each start, by a code, and, if zeroconf is there, by its announcement."""
+        code = Path(new_folder(), "qrcode.py")
+        code.write_text("""class QRCode:
+    def __init__(self, border): pass
+    def add_data(self, text): self.text = text
+    def print_ascii(self, out, invert): print(f"CODE {self.text}", file=out)
+""")
+        ways = os.environ | {"PYTHONPATH": f"{code.parent}:{PACKAGES}"}
+        told = r"the page is at (.*) and asks for the word (\w{8,})\n"
+        address, word = re.search(told, self.web.told()).groups()
+        self.assertNotIn("CODE", self.web.told())
+        self.web.end()
+        web = self.starts("web.py", "--web", self.port, *self.words, env=ways)
+        until(lambda: f"CODE {address}\n" in web.told(), "the code has the address")
+        self.assertEqual(re.search(told, web.told()).groups(), (address, word))
+        if os.path.isdir(f"{PACKAGES}/zeroconf"):
+            until(lambda: re.search(rf"announced at .* as srcp on .*, port {self.port}", web.told()), "it is announced")
+        self.assertEqual(web.end(), 0)
 
 
 class WebBesideManyConnections(WebCase):

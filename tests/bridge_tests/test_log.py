@@ -7,7 +7,8 @@ from pathlib import Path
 
 from serving import UNREAD
 
-from .common import PROGRAMS, WAIT, Case, new_folder, until
+from .common import PROGRAMS, WAIT, Case, Session, connects, free_port, new_folder, until
+from .test_srcpd import Client as OldClient
 
 STAMP = re.compile(r"^\d{4}-\d\d-\d\d \d\d:\d\d:\d\d\.\d{3} ", re.M)
 
@@ -40,6 +41,28 @@ class Log(Case):
         self.assertEqual(lines[lines.index(want[0]):], want)
         self.assertFalse([line for line in lines if re.search("GL 7|FB 8", line)])  # they were there before
         self.assertTrue(all(STAMP.match(line) for line in self.log.told().splitlines() if "V 100" in line))
+
+    def test_sessions_have_the_names_of_their_programs(self):
+        """Those of the programs of this machine: as they are there, lock a locomotive, and end. Of one that gives no
+        name the number alone is told, as of one that has its number after the server was started anew."""
+        proxy = self.starts("srcpd.py", "--listen", listen := free_port(), port=self.way.port)
+        until(lambda: connects(listen) and "server: joined" in proxy.told(), "the proxy is there")
+        client = OldClient(listen, "COMMAND")
+        name = "srcpd.py: client 127.0.0.1"
+        until(lambda: f"0 SESSION {client.id}: it is of {name}" in self.lines(), "whose it is")
+        self.assertIn(f"0 SESSION {client.id}: COMMAND begins", self.lines())
+        client.ask("SET 1 LOCK GL 7 0", "TERM 0 SESSION")
+        until(lambda: f"0 SESSION {client.id} ({name}): ends" in self.lines(), "it ends")
+        self.assertIn(f"1 GL 7: locked by session {client.id} ({name})", self.lines())
+        self.assertIn("0 SESSION 1: COMMAND begins", self.lines())
+        self.assertFalse([line for line in self.lines() if line.startswith("0 SESSION 1") and "it is of" in line])
+        proxy.end()
+        self.restart()
+        until(lambda: self.lines().count("joined a server that was started") == 2, "joined again")
+        others = [Session(self.server.port) for _ in range(client.id)]
+        other = next(session for session in others if session.session == client.id)
+        other.order("INIT 1 GL 7 N 1 28 2", "SET 1 LOCK GL 7 0")
+        until(lambda: f"1 GL 7: locked by session {client.id}" in self.lines(), "the lock is written")
 
     def test_the_server_goes_and_comes(self):
         self.server.restart()

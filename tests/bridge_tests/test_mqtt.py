@@ -9,6 +9,7 @@ import subprocess
 import sys
 import threading
 import time
+import types
 import unittest
 from pathlib import Path
 
@@ -387,10 +388,27 @@ class MqttForHomeAssistant(MqttCase):
         shown = retained(self.broker.port)
         return {topic: json.loads(payload) for topic, payload in shown.items() if topic.startswith("home")}
 
+    def test_a_slider_of_home_assistant(self):
+        """It reaches 0, which 1 to 100 does not, and shows what drives above that."""
+        self.throttle.order("TERM 1 LOCK GL 3")
+        until(lambda: "homeassistant/number/srcp/1_GL_3/config" in self.announced(), "it learns of the locomotive")
+        number = self.announced()["homeassistant/number/srcp/1_GL_3/config"]
+        self.assertEqual((number["min"], number["max"]), (0, 100))
+        for share in (100, 1, 0):
+            wanted = number["command_template"].replace("{{ value | int }}", str(share))
+            self.client.say(number["command_topic"], wanted)
+            self.has(f"100 INFO 1 GL 3 1 {share} 100")
+        shows = number["value_template"].removeprefix("{{").removesuffix("}}").strip()  # a template, and Python too
+        for v, v_max, share in ((0, 28, 0), (1, 126, 1), (1, 28, 4), (27, 28, 97), (28, 28, 100), (0, 0, 0)):
+            row = types.SimpleNamespace(v=v, v_max=v_max)
+            self.assertEqual(eval(shows, {"value_json": row}), share)
+
     def test_what_it_learns(self):
         self.throttle.order("TERM 1 LOCK GL 3")
-        until(lambda: len(self.announced()) == 1 + 1 + 2 + 32 + 16, "power, a locomotive, two accessories, and sensors")
+        until(lambda: len(self.announced()) == 1 + 1 + 1 + 2 + 32 + 16,
+              "a button, power, a locomotive, two accessories, and sensors")
         found = self.announced()
+        stop = found.pop("homeassistant/button/srcp/stop/config")
         for topic, words in found.items():
             self.assertLessEqual({"name", "unique_id", "state_topic", "availability_topic"}, words.keys())
             self.assertIn(words["state_topic"], self.client.topics | {"srcp/2/GA/7/position": ""})
@@ -398,6 +416,8 @@ class MqttForHomeAssistant(MqttCase):
         number = found["homeassistant/number/srcp/1_GL_3/config"]
         self.client.say(number["command_topic"], number["command_template"].replace("{{ value | int }}", "50"))
         self.has("100 INFO 1 GL 3 1 50 100")
+        self.client.say(stop["command_topic"], stop["payload_press"])
+        self.has("100 INFO 1 GL 3 1 0 100")
         switch = found["homeassistant/switch/srcp/1_POWER_0/config"]
         self.client.say(switch["command_topic"], "OFF")
         self.has("100 INFO 1 POWER OFF")
@@ -405,9 +425,9 @@ class MqttForHomeAssistant(MqttCase):
         self.client.say("homeassistant/switch/other/x/config", "{}", retain=True)
         self.throttle.order("TERM 1 GL 3", "TERM 2 GA 7")
         self.start()
-        until(lambda: len(self.announced()) == 50 + 1, "what went while it was away; others' stays")
+        until(lambda: len(self.announced()) == 51 + 1, "what went while it was away; others' stays")
         self.throttle.order("TERM 1 GA 5")
-        until(lambda: len(self.announced()) == 49 + 1, "what goes")
+        until(lambda: len(self.announced()) == 50 + 1, "what goes")
 
 
 @unittest.skipUnless(paho and interpreter("mqtt.py"), "python3-paho-mqtt is not installed")

@@ -1,9 +1,10 @@
 """mqtt.py: what a stop refuses of the commands that came by topics, and what is told of those not carried out."""
 import asyncio
 import json
+import time
 import unittest
 
-from .common import until
+from .common import rows, until
 from .test_mqtt import MqttCase, new_bridge, paho
 
 AWAY = "the server is away"
@@ -135,6 +136,18 @@ class Stopping(MqttCase):
         for stop in (("stop", "now"), ("1/GL/3", '{"mode": 2}')):
             drove = {count: sum(drives_on(count, *stop) for _ in range(20)) for count in (2, 3, 5, 10)}
             self.assertEqual(drove, dict.fromkeys(drove, 0))
+
+    def test_a_stop_of_all_behind_a_speed_that_the_panel_tells_late(self):
+        """As on a busy machine. No driver is there that would hold the train."""
+        self.way.late = b"GL 3 0 5 28"
+        self.client.say("srcp/1/GL/3/set", '{"mode": 0, "v": 5}')
+        self.has("100 INFO 1 GL 3 0 5 28")
+        self.client.say("srcp/stop/set", "now")
+        until(lambda: any(row.endswith(" stop all") for row in rows(self.server.port)), "it is told")
+        time.sleep(0.4)
+        self.way.late = None
+        self.way.free()
+        self.has("100 INFO 1 GL 3 0 0 28")
 
     def test_after_a_stop_it_drives_again(self):
         """A number, and the slider of Home Assistant, need no direction: it is the one of before the stop."""

@@ -62,8 +62,9 @@ FAULTS = [  # the text, what stands in its place, and the fault
     ("t1 = { turnout = [1, 1, 1] }", "t1 = { turnout = [1, true, 1] }", "line 15: t1: a turnout is [bus"),
     ("[2, 1, 2, 0]", "[2, 2045, 2, 0]", "line 14: s1: a signal is [bus, address, port of go, port of stop]"),
     ("sensor = [1, 2]", "sensor = [0, 2]", "line 12: b2: a sensor is [bus, address]"),
-    ("sensor = [1, 2]", "senser = [1, 2]", "line 12: b2 is one of turnout, signal, sensor and button"),
+    ("sensor = [1, 2]", "senser = [1, 2]", "line 12: b2 is one of turnout, signal, sensor, button, text and"),
     ("\"West\"", "5", "line 9: W: a button has a text"),
+    ("b3 = { sensor = [1, 3] }", "b3 = { text = \"Yard\" }", "line 5: track leads to b3 in column 18, which stands"),
     ("bus = 3", "bus = 251", "line 1: the routes have a bus of their own: bus = 1 to 250"),
     ("\"V  100\"", "100", "line 19: 1 GL 3: a name is a text"),
     ("\"Whistle\"", "3", "line 22: 1 GL 3: the labels of F0, F1 .. are a list of texts"),
@@ -75,6 +76,14 @@ FAULTS = [  # the text, what stands in its place, and the fault
     ("[[1, 1, 1], [1, 2, 0]]", "[[1, 1, 1], [1, 2]]", "line 36: the turnouts of a route are a list of [bus, address"),
     ("[[1, 1, 1], [1, 2, 0]]", "[[1, 1, 1], [1, 2, 1]]", "line 36: no track leads from E to W over the turnouts"),
     ("[[1, 1, 1], [1, 2, 0]]", "[[1, 2, 0]]", "line 36: no track leads from E to W over the turnouts"),
+    ("number = 2", "number = 2\nblock = [[1, 1]]", "line 33: block is no key of a route: number, name, from, to,"),
+    ("number = 2", "number = 2\nsignals = [2, 1, 2, 0]", "line 33: signals is no key of a route"),
+    ("number = 2", "number = 2\nblocks = [[1, 0]]", "line 33: the blocks of a route are a list of [bus, sensor]"),
+    ("number = 2", "number = 2\nblocks = [[3, 1]]", "line 33: the blocks of a route are on other buses"),
+    ("number = 2", "number = 2\nsignal = [2, 1, 2]", "line 33: the key signal of a route is [bus, address, port of go"),
+    ("number = 2", "number = 2\nfrees = [[1, 1]]", "line 33: the key frees of a route is [bus, sensor]"),
+    ("number = 2", "number = 2\nfrees = [3, 1]", "line 33: the key frees of a route is on another bus"),
+    ("bus = 3\n", "bus = 3\nroutes = 4\n", "line 2: routes is no key of a plan: bus, plan, legend, names,"),
     ("bus = 3\n", "bus = 3\nbus = 3\n", "Cannot overwrite a value (at line 2, column 8)"),
 ]
 
@@ -142,6 +151,30 @@ class Plans(unittest.TestCase):
         [y, *_] = self.of("    /=\n ==y\n    \\=", "y = { turnout = [1, 1, 1] }")["elements"]
         self.assertEqual(y["ends"], [(5.0, 0.5), (5.0, 2.5)])
 
+    def test_to_which_side_signals_are_passed(self):
+        """As their routes pass them, or as the legend says. One that is passed to both sides has no direction."""
+        signal, route = "s1 = { signal = [2, 1, 2, 0]", 'to = "E"\n'
+        back = PLAN + "signal = [2, 1, 2, 0]\n"
+
+        def told(text):
+            return next(each for each in plan_of(text).drawing["elements"] if each["name"] == "s1")
+
+        self.assertEqual(told(PLAN)["to"], None)
+        self.assertEqual(told(PLAN.replace(signal, signal + ', to = "left"'))["to"], "left")
+        ahead = PLAN.replace(route, route + "signal = [2, 1, 2, 0]\n")
+        self.assertEqual([told(text)["to"] for text in (ahead, back)], ["right", "left"])
+        self.assertEqual(told(ahead + "signal = [2, 1, 1, 0]\n")["to"], None)
+        self.assertEqual(told(back.replace(signal, signal + ', aspects = ["halt", ""]'))["aspects"], ["halt", ""])
+        for text, more, fault in (
+                (back, ', to = "right"', "line 37: route 2 passes s1 to the left, and not to the right"),
+                (PLAN, ', to = "east"', "line 14: s1: a train that obeys a signal drives to = \"left\" or"),
+                (PLAN, ", aspects = 3", "line 14: s1: the aspects of a signal are the names of port 0, 1 ..: 4 texts"),
+                (PLAN, f", aspects = {['a'] * 5}", "line 14: s1: the aspects of a signal are the names of port 0, 1"),
+                (PLAN, ", turnout = [1, 5, 1]", "line 14: s1 is one of turnout, signal")):
+            with self.assertRaises(ValueError, msg=fault) as met:
+                plan_of(text.replace(signal, signal + more))
+            self.assertIn(fault, str(met.exception))
+
     def test_tracks_that_end(self):
         """Each is drawn once, also one on which nothing stands."""
         drawing = self.of("==b\n\n====", "b = { sensor = [1, 1] }")
@@ -158,11 +191,31 @@ class Plans(unittest.TestCase):
             most = buses[int(bus)][{"GL": "gl_max", "GA": "ga_max", "FB": "fb_ports"}[group]]
             self.assertLessEqual(int(address), most, (bus, group))
         self.assertEqual([route["number"] for route in drawing["routes"]], [1, 2, 3, 4])
+        driven = {key.split()[0] for key in keys} - {str(drawing["bus"])}
+        self.assertEqual([(bus, "POWER" in buses[int(bus)]["groups"]) for bus in driven], [("1", True)])  # one driver
         page = (TOP / "bridges" / "README.md").read_text()
         self.assertIn(text[text.index("plan = '''"):text.index("[legend]")].rstrip(), page)
         with self.assertRaises(ValueError) as met:
             plan_of(text.replace("t1 =", "t8 ="))
         self.assertIn(f"--plan examples/plan.toml: {met.exception}`", page)
+
+    def test_what_stands_beside_the_tracks(self):
+        """A platform reaches as far as the # beside its name."""
+        words = ("a==b", " #p# x", "c==d")
+        legend = [f"{name} = {{ button = \"\" }}" for name in "abcd"]
+        given = ["p = { platform = \"Platform\" }", "x = { text = \"to the valley\" }"]
+        drawing = self.of("\n".join(words), *legend, *given)
+        self.assertEqual([each["name"] for each in drawing["elements"]], list("abcd"))
+        self.assertEqual(drawing["beside"], [
+            {"name": "p", "kind": "platform", "at": (2.5, 1.5), "text": "Platform", "wide": 3},
+            {"name": "x", "kind": "text", "at": (5.5, 1.5), "text": "to the valley", "wide": 1}])
+        for line, entries, fault in (("a=x=b", given[1:], "line 2: track leads to x in column 3, which stands beside"),
+                                     ("a==b  #p", ["p = { text = \"\" }"], "line 2: p in column 7 is a text: # is"),
+                                     ("a==b  #p", ["p = { platform = 3 }"], "line 8: p: a platform has a text"),
+                                     ("a==b  # p", given[:1], "line 2: '#' in column 7 is neither track nor a name")):
+            with self.assertRaises(ValueError) as met:
+                self.of(line, *legend[:2], "", *entries)
+            self.assertIn(fault, str(met.exception))
 
     def test_faults(self):
         for old, new, fault in FAULTS:

@@ -1,12 +1,12 @@
 """The track plan of web.py's page in Chromium: clicks, keys, routes, and how it looks."""
 import re
 import time
+from itertools import combinations
 from pathlib import Path
 
 from .browser import HELD, started
-from .common import TOP, new_folder, rows, until
-from .large_plan import large_plan
-from .test_chromium import CONTRAST, SMALL, ChromiumCase
+from .common import Session, new_folder, plan_of_two_buses, rows, until
+from .test_chromium import SMALL, ChromiumCase
 
 LAYOUT = """port = {port}
 [[bus]]
@@ -25,6 +25,7 @@ fb_ports = 16
 number = 3
 groups = ["GA", "FB"]
 ga_max = 32
+ga_ports = 3
 fb_ports = 32
 """
 
@@ -34,7 +35,7 @@ class PlanCase(ChromiumCase):
     layout = LAYOUT
 
     def plan(self):
-        return TOP / "examples" / "plan.toml"
+        return plan_of_two_buses()
 
     def setUp(self):
         self.browser = started(language=self.language) or self.skipTest("chromium is not installed, or does not start")
@@ -64,7 +65,7 @@ class PlanCase(ChromiumCase):
             self.clicks(name)
 
     def drawn(self, kind):
-        """How many tracks are drawn as free (""), "asked", "set" or "busy"."""
+        """How many tracks are drawn as free (""), "asked", "set", "lost" or "busy"."""
         return self.js(f"document.querySelectorAll('#drawing path[class=\"track {kind}\"]').length")
 
     def tells(self, words, failed=False):
@@ -75,6 +76,7 @@ class PlanCase(ChromiumCase):
 
     def route_is(self, name, state):
         until(lambda: self.js(f"{self.chip(name)}.lastChild.textContent") == state, f"{name} is {state}")
+        time.sleep(1)  # the plan moves to a route that is set: for half a second after that a click does nothing
 
 
 class PlanInChromium(PlanCase):
@@ -84,13 +86,23 @@ class PlanInChromium(PlanCase):
         self.clicks("t1"), self.says("t1", "t1, West turnout: straight")
         self.clicks("t1"), self.says("t1", "t1, West turnout: branch")
         self.has("100 INFO 1 GA 1 0 0", "100 INFO 1 GA 1 1 0")  # each was a pulse
-        self.clicks("s1"), self.says("s1", "s1, Home signal: go"), self.has("100 INFO 2 GA 1 2 1")
-        self.clicks("s1"), self.says("s1", "s1, Home signal: stop")
+        self.clicks("s1"), self.says("s1", "s1, Home signal, to the right: stop")  # by each click: none shows go
+        self.throttle.order("SET 2 GA 1 0 0 -1", "SET 2 GA 1 2 1 -1")
+        self.says("s1", "s1, Home signal, to the right: go")
+        self.clicks("s1"), self.says("s1", "s1, Home signal, to the right: stop")
         self.has("100 INFO 2 GA 1 2 0", "100 INFO 2 GA 1 0 1")
         self.throttle.order("SET 1 LOCK GA 1 0")
         self.clicks("t1"), self.tells("West turnout is taken by another throttle.", failed=True)
         self.says("t1", "t1, West turnout: branch")
         self.assertEqual(self.browser.faults, [])
+
+    def test_in_chromium_signals_of_the_list(self):
+        """Their buttons have the names of aspects. One of a route shows go by that alone: the others do nothing."""
+        self.throttle.order("INIT 2 GA 1 N", "INIT 2 GA 7 N", "SET 2 GA 1 0 1 -1")
+        until(lambda: self.has_card("2 GA 1") and self.has_card("2 GA 7"), "the cards")
+        buttons = "[...{}.querySelectorAll('button')].map(e => e.textContent + (e.disabled ? ' -' : ''))"
+        self.assertEqual(self.js(buttons.format(self.card("2 GA 1"))), ["stop", "1 -", "go -", "3 -"])
+        self.assertEqual(self.js(buttons.format(self.card("2 GA 7"))), ["0", "1", "2", "3"])
 
     def test_in_chromium_which_leg_is_drawn(self):
         """That to which a turnout does not lead has a gap; both have one as long as nobody has thrown it."""
@@ -100,15 +112,33 @@ class PlanInChromium(PlanCase):
         self.throttle.order("INIT 1 GA 1 N", "INIT 1 GA 2 N", "SET 1 GA 1 0 1 -1", "SET 1 GA 2 1 1 -1")
         until(lambda: [self.js(each) for each in of] == [[False, True], [True, False]], "the legs")
 
+    def test_in_chromium_what_is_written(self):
+        """Names of [names] stand above their elements if there is room for them; beside the tracks are a platform and a
+        text."""
+        above = "[...document.querySelectorAll('#drawing .name')].map(e => e.textContent).join(' | ')"
+        self.assertEqual(self.js(above), "West | b1 | Home signal | West turnout | b5 | b2 | Track 1 | Exit of track 1 "
+                         "| East turnout | b4 | East | b6 | b3 | Track 2 | Exit of track 2")
+        spans = self.js("[...document.querySelectorAll('#drawing .name')].map(e => (r => [r.left, r.right, r.top])"
+                        "(e.getBoundingClientRect()))")
+        for (left, right, top), (other, beside, above) in combinations(spans, 2):
+            self.assertTrue(right <= other or beside <= left or abs(top - above) > 20, (left, right, other, beside))
+        notes = "[...document.querySelectorAll('#drawing .note')].map(e => e.textContent)"
+        self.assertEqual(self.js(notes), ["to the valley", "Platform"])
+        wide = "document.querySelector('{}').getBoundingClientRect().width"
+        self.assertAlmostEqual(self.js(wide.format("#drawing .area")) / self.js(wide.format("#drawing")), 11 / 46, 2)
+
     def test_in_chromium_occupied_blocks(self):
-        self.assertEqual((self.drawn(""), self.drawn("busy")), (13, 0))
+        self.assertEqual((self.drawn(""), self.drawn("busy")), (15, 0))
         self.throttle.order("SET 1 FB 1 1", "SET 1 FB 3 1")
         self.says("b1", "b1, Sensor 1: occupied"), self.says("b2", "b2, Sensor 2: free")
         self.says("b3", "b3, Sensor 3: occupied")
-        self.assertEqual((self.drawn(""), self.drawn("busy")), (8, 5))  # W b1 s1 t1, and t1 b3 Q
+        self.assertEqual((self.drawn(""), self.drawn("busy")), (10, 5))  # W b1 s1 t1, and b6 b3 Q
         red, blue, _ = self.js("getComputedStyle(document.querySelector('.track.busy')).stroke"
                                ".match(/[0-9]+/g).map(Number)")
         self.assertGreater(red, 2 * blue)
+        colours = self.js("[['.track.busy', 'stroke'], ['.sensor.busy .mark', 'fill'], ['#FB .on', 'backgroundColor']]"
+                          ".map(([path, key]) => getComputedStyle(document.querySelector(path))[key])")
+        self.assertEqual(len(set(colours)), 1, colours)  # occupied has one colour everywhere
         self.throttle.order("SET 1 FB 1 0", "SET 1 FB 3 0")
         until(lambda: self.drawn("busy") == 0, "they are free")
 
@@ -131,24 +161,100 @@ class PlanInChromium(PlanCase):
         self.assertEqual(self.told(), ["", ""])  # and so it stays if the route is set before the reply comes
         self.js("(window.holds = null, window.held.forEach(goes => goes()))")
         self.tells("The route West to track 1 is asked for.")
+        self.route_is("West to track 1", "waits: no program sets routes")
+        self.assertEqual((self.drawn("asked"), self.drawn("set")), (6, 0))
+        self.throttle.order("INIT 2 GA 1 N", "SET 2 LOCK GA 1 0")  # as the program does that sets routes
         self.route_is("West to track 1", "waits")
-        self.assertEqual((self.drawn("asked"), self.drawn("set")), (5, 0))
-        self.throttle.order("SET 1 LOCK GA 1 0", "SET 3 FB 1 1")  # as the program does that sets routes
+        self.throttle.order("SET 1 LOCK GA 1 0", "SET 3 FB 1 1")
         self.route_is("West to track 1", "set")
-        self.assertEqual((self.drawn("asked"), self.drawn("set")), (0, 5))
+        self.assertEqual((self.drawn("asked"), self.drawn("set")), (0, 6))
         self.says("t1", "t1, West turnout: straight, locked")
         self.clicks("t1"), self.tells("West turnout is locked by the route West to track 1.", failed=True)
         self.says("t1", "t1, West turnout: straight, locked")
         self.clicks_on("W", "P"), self.tells("The route West to track 1 is set.")
         self.throttle.order("SET 1 FB 2 1")
-        until(lambda: (self.drawn("set"), self.drawn("busy")) == (3, 2), "a train is on it")
+        until(lambda: (self.drawn("set"), self.drawn("busy")) == (4, 2), "a train is on it")
         self.gives_back()
         self.assertEqual(self.browser.faults, [])
+
+    def test_in_chromium_what_asks_for_routes(self):
+        """It is no turnout in the list of turnouts, and what tells of routes is no sensor there: nor is it counted.
+        What is refused has the name of its route."""
+        self.throttle.order("INIT 1 GA 1 N", "INIT 3 GA 1 N", "SET 3 LOCK GA 1 0", "SET 1 FB 2 1", "SET 3 FB 4 1")
+        counts = "['countGA', 'countFB'].map(id => document.getElementById(id).textContent)"
+        until(lambda: self.js(counts) == ["1", "80, 1 occupied"], f"the counts, and not {self.js(counts)}")
+        cards = "[...document.querySelectorAll('#GA li, #FB li')].map(e => e.dataset.key.split(' ')[0])"
+        self.assertEqual(set(self.js(cards)), {"1", "2"})
+        self.clicks_on("W", "P"), self.tells("West to track 1 is taken by another throttle.", failed=True)
+
+    def test_in_chromium_routes_that_are_not_set(self):
+        """A route of which the sensor alone says that it is set is lost. Of one that waits it is said what for."""
+        self.throttle.order(*[f"INIT {bus} GA {n} N" for bus in (1, 2, 3) for n in (1, 2, 3)], "SET 1 GA 1 0 1 -1",
+                            "SET 3 FB 1 1")
+        self.route_is("West to track 1", "lost: its turnouts are not locked")
+        self.assertEqual((self.drawn("lost"), self.drawn("set")), (6, 0))
+        self.throttle.order("SET 1 LOCK GA 1 0", "SET 2 LOCK GA 1 0")
+        self.route_is("West to track 1", "set")
+        self.throttle.order("SET 1 GA 1 0 0 -1", "SET 1 GA 1 1 1 -1")
+        self.route_is("West to track 1", "lost: West turnout lies otherwise")
+        self.throttle.order("SET 1 POWER ON thrown by hand: 1 1")
+        said = "[...document.querySelectorAll('#track li:not([hidden])')].map(e => e.textContent)"
+        why = "Power 1: a hand at the station has thrown West turnout, which is locked."
+        until(lambda: self.js(said) == [why], why)
+        self.throttle.order("SET 1 GA 1 1 0 -1", "SET 1 GA 1 0 1 -1")
+        self.route_is("West to track 1", "set")
+        self.throttle.order("SET 3 GA 2 1 1 250")
+        self.route_is("West to track 2", "waits for West to track 1")
+        self.throttle.order("SET 1 FB 3 1")
+        self.route_is("West to track 2", "waits for Sensor 3")
+        self.throttle.order("SET 3 FB 1 0", "SET 1 FB 3 0")
+        self.route_is("West to track 2", "waits")
+
+    def test_in_chromium_a_signal_of_a_set_route(self):
+        """A click has its program stop it, and neither gives its route back nor asks for anything else."""
+        self.throttle.order(*[f"INIT {bus} GA {n} N" for bus in (1, 2, 3) for n in (1, 2, 3)], "SET 1 GA 1 0 1 -1",
+                            "SET 2 GA 1 2 1 -1", "SET 1 LOCK GA 1 0", "SET 2 LOCK GA 1 0", "SET 3 GA 1 1 1 250",
+                            "SET 3 FB 1 1")
+        self.route_is("West to track 1", "set"), self.says("s1", "s1, Home signal, to the right: go")
+        panel = Session(self.server.port, "INFO")
+        panel.hears_until(b" 100 INFO 3 FB 32 0\n")
+        self.clicks("s1"), self.tells("Home signal is to show stop. The route West to track 1 stays set.")
+        told = [panel.line().decode().partition(" ")[2].strip() for _ in range(2)]
+        self.assertEqual(told, [f"100 INFO 3 GA 1 2 {value}" for value in (1, 0)])
+        self.has("100 INFO 2 GA 1 2 1")
+        self.route_is("West to track 1", "set")
+
+    def test_in_chromium_a_begin_that_is_taken_back(self):
+        """The first Escape takes a chosen begin back, and stops nothing; the next one stops all."""
+        self.throttle.order("INIT 1 GL 3 N 1 28 3", "SET 1 GL 3 1 9 28")
+        self.clicks("W"), self.tells("From West: choose where the route ends.")
+        self.browser.presses("Escape", windowsVirtualKeyCode=27)
+        until(lambda: self.js("document.querySelector('#drawing .chosen')") is None, "nothing is chosen")
+        time.sleep(0.3)
+        self.has("100 INFO 1 GL 3 1 9 28")
+        self.browser.presses("Escape", windowsVirtualKeyCode=27), self.has("100 INFO 1 GL 3 1 0 28")
+
+    def test_in_chromium_a_begin_that_is_forgotten(self):
+        """A begin stays chosen for 10 s. Then the next click on a button chooses a begin again, and asks for nothing;
+        what the bar says of something else stays."""
+        chosen = "document.querySelector('#drawing .chosen')?.dataset.name"
+        began = time.monotonic()
+        self.clicks("W"), self.tells("From West: choose where the route ends.")
+        self.throttle.order("INIT 1 GA 1 N", "SET 1 LOCK GA 1 0", *[f"INIT 3 GA {n} N" for n in (1, 2, 3, 4)])
+        self.js("new Promise(then => setTimeout(then, 7000))")
+        if time.monotonic() - began < 9:  # else the machine is too busy to say
+            self.assertEqual(self.js(chosen), "W")
+        self.clicks("t1"), self.tells("West turnout is taken by another throttle.", failed=True)
+        until(lambda: self.js(chosen) is None, "it is forgotten")
+        self.assertGreater(time.monotonic() - began, 9.5)
+        self.assertEqual(self.told(), ["West turnout is taken by another throttle.", "failed"])
+        self.clicks("P"), self.tells("From Track 1: choose where the route ends.")
+        self.lacks("100 INFO 3 GA 1 1 1")
 
     def gives_back(self):
         self.js(f"{self.chip('West to track 1')}.click()")
         until(lambda: self.js("import('/layout.js').then(m => m.devices.get('3 GA 1').lies)") == 0, "it is given back")
-        self.throttle.order("SET 3 FB 1 0", "TERM 1 LOCK GA 1")
+        self.throttle.order("SET 3 FB 1 0", "TERM 1 LOCK GA 1", "TERM 2 LOCK GA 1")
         self.route_is("West to track 1", "free")
         self.clicks("t1"), self.says("t1", "t1, West turnout: branch")
 
@@ -160,7 +266,7 @@ class PlanInChromium(PlanCase):
         while reached[-1]:
             self.browser.presses("Tab", windowsVirtualKeyCode=9)
             reached.append(self.js(focused))
-        self.assertEqual(" ".join(reached[:-1]), "W b1 s1 t1 b2 P s2 t2 b4 E b3 Q s3")
+        self.assertEqual(" ".join(reached[:-1]), "W b1 s1 t1 b5 b2 P s2 t2 b4 E b6 b3 Q s3")
         self.js(f"{self.element('t1')}.focus()")
         self.browser.presses("Enter", windowsVirtualKeyCode=13), self.says("t1", "t1, West turnout: straight")
         outline = f"getComputedStyle({self.element('t1')}.querySelector('.hit')).strokeWidth"
@@ -174,12 +280,12 @@ class PlanInChromium(PlanCase):
         until(lambda: self.js("scrollY") > top, "elsewhere it scrolls the page")
         for name in ("Q", "E"):
             self.js(f"{self.element(name)}.focus()"), self.browser.presses("Enter", windowsVirtualKeyCode=13)
-        self.route_is("Track 2 to east", "waits")
+        self.route_is("Track 2 to east", "waits: no program sets routes")
         self.browser.presses("Escape", windowsVirtualKeyCode=27), self.has("100 INFO 1 GL 3 1 0 28")
         tree = self.browser.call("Accessibility.getFullAXTree")["nodes"]
         told = {node["name"]["value"]: node["role"]["value"] for node in tree if node.get("name", {}).get("value")}
         for name, role in [("W, West", "button"), ("t1, West turnout: branch", "button"),
-                           ("s2, Exit of track 1: unknown", "button"), ("b4, Sensor 4: free", "image")]:
+                           ("s2, Exit of track 1, to the right: unknown", "button"), ("b4, Sensor 4: free", "image")]:
             self.assertEqual(told.get(name), role, name)
 
     def test_in_chromium_labels_of_functions(self):
@@ -197,10 +303,58 @@ class PlanInChromium(PlanCase):
                             "SET 1 GL 7 0 88 126 1 0 1", *[f"INIT {bus} GA {n} N" for bus in (1, 2, 3) for n in (1, 2)],
                             "INIT 2 GA 3 N", *[f"SET 2 GA {n} {2 * (n == 1)} 1 -1" for n in (1, 2, 3)],
                             "SET 1 GA 1 1 1 -1", "SET 1 GA 2 0 1 -1", "SET 1 LOCK GA 1 0", "SET 3 FB 2 1",
-                            "SET 1 FB 1 1", "SET 1 FB 4 1")
+                            "SET 2 LOCK GA 1 0", "SET 1 FB 1 1", "SET 1 FB 4 1")
         until(lambda: self.has_card("1 GL 7") and self.has_card("2 GA 3"), "the cards")
-        until(lambda: (self.drawn("set"), self.drawn("busy")) == (2, 5), "the route, and both trains")
+        until(lambda: (self.drawn("set"), self.drawn("busy")) == (3, 5), "the route, and both trains")
         self.picture("panel", 1160, 800)
+
+
+class SignalsInChromium(PlanCase):
+    """A signal of four aspects that have names, and two that no route passes. Accessories of routes have two ports."""
+    layout = LAYOUT.replace("ga_ports = 3\n", "")
+
+    def test_in_chromium_a_signal_that_its_route_alone_stops(self):
+        """A click does nothing then, but the page says what does: not even that gives a route back by accident."""
+        self.throttle.order(*[f"INIT {bus} GA {n} N" for bus in (1, 2, 3) for n in (1, 2, 3)], "SET 1 GA 1 0 1 -1",
+                            "SET 2 GA 1 1 1 -1", "SET 1 LOCK GA 1 0", "SET 2 LOCK GA 1 0", "SET 3 FB 1 1")
+        self.route_is("West to track 1", "set")
+        said = "Home signal shows stop once the route West to track 1 is given back: press it below."
+        self.clicks("s1"), self.tells(said, failed=True)
+        time.sleep(0.3)
+        self.route_is("West to track 1", "set")
+        self.has("100 INFO 2 GA 1 1 1")
+        self.lacks("100 INFO 3 GA 1 0 1", "100 INFO 3 GA 1 1 1")
+
+    def plan(self):
+        path, text = Path(new_folder(), "plan.toml"), plan_of_two_buses().read_text()
+        for name, more in (("s1", 'aspects = ["stop", "caution", "proceed", "shunting"]'), ("s3", 'to = "left"')):
+            text = re.sub(rf"^({name} = .*) }}", rf"\1, {more} }}", text, flags=re.M)
+        text = re.sub("^signal = .*\n", "", text.replace("signal = [2, 1, 2, 0]\nfrees = [1, 6]", "frees = [1, 6]"),
+                      flags=re.M) + 'signal = [2, 1, 2, 0]\n'
+        text = text.replace("West turnout", "West turnout, which leads to track 1 or to track 2")
+        path.write_text(text.replace("number = 1\n", "number = 1\nsignal = [2, 1, 1, 0]\n", 1))
+        return path
+
+    def test_in_chromium_aspects_of_a_signal(self):
+        """Each is told and drawn by its name, and by another bar in the disc; another port is unknown."""
+        self.throttle.order(*[f"INIT 2 GA {n} N" for n in (1, 2, 3)])
+        drawn = self.element("s1") + ".querySelector('.aspect').textContent"
+        bars = "[...{}.querySelectorAll('.bar')].map(e => getComputedStyle(e).stroke !== 'none').indexOf(true)"
+        seen = []
+        for port, name in enumerate(("stop", "caution", "proceed", "shunting")):
+            self.throttle.order(*[f"SET 2 GA 1 {other} 0 -1" for other in range(4)], f"SET 2 GA 1 {port} 1 -1")
+            self.says("s1", f"s1, Home signal, to the right: {name}")
+            self.assertEqual(self.js(drawn), name)
+            seen.append(self.js(bars.format(self.element("s1"))))
+        self.assertEqual(sorted(seen), [0, 1, 2, 3])
+        self.throttle.order("SET 2 GA 2 1 1 -1"), self.says("s2", "s2, Exit of track 1: unknown")
+        self.says("s3", "s3, Exit of track 2, to the left: unknown")
+        arrows = "[...document.querySelectorAll('#drawing .way.{}')].map(e => e.parentNode.dataset.name)"
+        self.assertEqual([self.js(arrows.format(side)) for side in ("right", "left")], [["s1"], ["s3"]])
+        self.picture("aspects", 1160, 800)
+        above = "[...document.querySelectorAll('#drawing .name')].map(e => e.textContent)"
+        self.assertEqual(self.js(above)[2:4], ["Home signal", "t1"])  # for the other name there is no room
+        self.clicks("s1"), self.says("s1", "s1, Home signal, to the right: stop")
 
 
 class PlanInGerman(PlanCase):
@@ -210,11 +364,11 @@ class PlanInGerman(PlanCase):
         """It speaks German, also on the narrowest phone, and English at a press."""
         self.throttle.order(*[f"INIT 3 GA {n} N" for n in (1, 2, 3, 4)], "INIT 1 GA 1 N", "SET 1 GA 1 1 1 -1")
         self.says("b1", "b1, Melder 1: frei"), self.says("t1", "t1, West turnout: Abzweig")
-        self.says("s1", "s1, Home signal: unbekannt")
+        self.says("s1", "s1, Home signal, nach rechts: unbekannt")
         self.clicks("W"), self.tells("Von West: das Ziel der Fahrstraße wählen.")
         self.clicks("Q"), self.tells("Die Fahrstraße West to track 2 ist angefordert.")
-        self.route_is("West to track 2", "wartet")
-        self.throttle.order("SET 3 FB 2 1", "SET 1 LOCK GA 1 0")
+        self.route_is("West to track 2", "wartet: kein Programm stellt Fahrstraßen")
+        self.throttle.order("INIT 2 GA 1 N", "SET 2 LOCK GA 1 0", "SET 3 FB 2 1", "SET 1 LOCK GA 1 0")
         self.says("t1", "t1, West turnout: Abzweig, verschlossen")
         self.clicks("t1"), self.tells("West turnout ist von der Fahrstraße West to track 2 verschlossen.", failed=True)
         self.picture("plan_german", 320, 640, True)
@@ -223,67 +377,3 @@ class PlanInGerman(PlanCase):
         self.js("document.getElementById('language').click()")
         self.says("t1", "t1, West turnout: branch, locked"), self.route_is("West to track 2", "set")
         self.assertEqual(self.browser.faults, [])
-
-
-class LargePlanInChromium(PlanCase):
-    """64 elements and 30 routes."""
-
-    def plan(self):
-        path = Path(new_folder(), "plan.toml")
-        path.write_text(large_plan(10))
-        return path
-
-    def fill(self):
-        self.throttle.flood([f"INIT 1 GA {n + m} N" for n in range(1, 10) for m in (0, 20)])
-        self.throttle.flood([f"SET 1 GA {n + m} {int(n + m != 4)} 1 -1" for n in range(1, 10) for m in (0, 20)])
-        self.throttle.flood([f"INIT 2 GA {n} N" for n in (*range(1, 11), *range(21, 31), 40, 41)])
-        self.throttle.flood([f"SET 2 GA {n} {2 * int(n in (4, 40))} 1 -1" for n in (*range(1, 11), 21, 22, 40)])
-        self.throttle.flood([f"INIT 3 GA {n} N" for n in range(1, 31)])
-        self.throttle.order("SET 3 GA 4 1 1 -1", "SET 3 FB 4 1", "SET 3 GA 28 1 1 -1", "SET 1 FB 2 1", "SET 1 FB 6 1")
-        self.throttle.flood([f"SET 1 LOCK GA {n} 0" for n in range(1, 5)])
-        until(lambda: self.drawn("set") and self.drawn("asked") and self.drawn("busy"), "it is drawn")
-
-    def test_in_chromium_a_large_plan(self):
-        """It has one size, and is scrolled on a phone; each part of it is seen well and large enough for a finger."""
-        self.fill()
-        size = "['width', 'height'].map(key => document.getElementById('drawing').getBoundingClientRect()[key])"
-        wide, small = self.js(size), SMALL.replace("'button,", "'#drawing g[role=button], button,").replace(
-            "e.offsetParent", "(e.offsetParent || e.ownerSVGElement)")
-        self.assertEqual(len(self.js("[...document.querySelectorAll('#drawing g')].map(e => e.dataset.name)")), 64)
-        for name, *words in [("plan_wide", 1280, 1100), ("plan_dark", 1280, 1100, False, True),
-                             ("plan_phone", 390, 844, True), ("plan_phone_dark", 390, 844, True, True)]:
-            self.picture(name, *words)
-            self.assertEqual(self.js(size), wide)
-            self.assertLessEqual(self.js("document.documentElement.scrollWidth - innerWidth"), 0, words)
-            self.assertEqual((self.js(small), self.js(CONTRAST), self.js(FAINT)), ([], [], []), words)
-        self.assertEqual(self.browser.faults, [])
-
-    def test_in_chromium_fingers_on_a_plan(self):
-        """A swipe scrolls it and throws nothing; a tap throws what is under it."""
-        self.fill()
-        self.browser.shows(390, 844, phone=True)
-        left = "document.getElementById('sheet').scrollLeft"
-        was = [row for row in rows(self.server.port) if re.match("100 INFO [12] GA", row)]
-        x, y = self.browser.place(self.element("s1"))
-        before = self.js(left)
-        self.assertGreater(before, 0)
-        self.browser.touches(*[(x - step * 12, y) for step in range(20)])
-        until(lambda: self.js(left) > before + 50, "it is scrolled")
-        time.sleep(0.5)
-        self.assertEqual([row for row in rows(self.server.port) if re.match("100 INFO [12] GA", row)], was)
-        self.says("t6", "t6, Turnout 7: straight")
-        self.browser.touches(self.browser.place(self.element("t6")))
-        self.says("t6", "t6, Turnout 7: branch")
-
-
-FAINT = """(() => {
-  const numbers = colour => colour.match(/[\\d.]+/g).slice(0, 3).map(Number);
-  const light = colour => numbers(colour).map(c => (c /= 255) <= .03928 ? c / 12.92 : ((c + .055) / 1.055) ** 2.4)
-    .reduce((sum, c, n) => sum + c * [.2126, .7152, .0722][n], 0);
-  const back = light(getComputedStyle(document.getElementById('sheet')).backgroundColor);
-  const seen = [['.track', 'stroke', 3], ['text.name', 'fill', 4.5], ['.turnout .mark', 'fill', 3]];
-  return [...new Set(seen.flatMap(([path, key, least]) => [...document.querySelectorAll('#drawing ' + path)]
-    .map(e => light(getComputedStyle(e)[e.matches('.locked .mark') ? 'stroke' : key]))
-    .map(a => (Math.max(a, back) + .05) / (Math.min(a, back) + .05)).filter(ratio => ratio < least)
-    .map(ratio => `${path} ${ratio.toFixed(1)}`)))];
-})()"""

@@ -54,14 +54,60 @@ class Programs(StationCase):
 
     def test_program_reads_writes_and_verifies(self):
         self.may()
-        self.assertEqual(self.programs("read", 1, 29), ("CV 1 = 3\nCV 29 = 6\n", "", 0))
-        self.assertEqual(self.programs("write", 29, 38), ("CV 29 = 38\n", "", 0))
-        self.assertEqual(self.station.decoder[29], 38)
-        self.assertEqual(self.programs("verify", 29, 38), ("CV 29 = 38\n", "", 0))
-        self.assertEqual(self.programs("verify", 29, 6), ("", "CV 29 = 38, and not 6\n", 1))
+        self.assertEqual(self.programs("read", 1, 29), ("CV 1 = 3\nCV 29 = 6 (steps, analog)\n", "", 0))
+        self.assertEqual(self.programs("write", 29, 7), ("CV 29 = 7 (turned, steps, analog), was 6\n", "", 0))
+        self.assertEqual(self.programs("write", 3, 20), ("CV 3 = 20, was 8\n", "", 0))
+        self.assertEqual((self.station.decoder[29], self.station.decoder[3]), (7, 20))
+        self.assertEqual(self.programs("verify", 29, 7), ("CV 29 = 7 (turned, steps, analog)\n", "", 0))
+        self.assertEqual(self.programs("verify", 29, 6), ("", "CV 29 = 7, and not 6\n", 1))
         self.station.decoder |= {1024: 255, 256: 0, 257: 7}
         self.assertEqual(self.asks("READ 1024", "WRITE 1024 0", "WRITE 256 255", "READ 256", "READ 257"),
                          ["200 255", "200 0", "200 255", "200 255", "200 7"])
+
+    def test_program_gives_an_address(self):
+        """A long one, and a short one again: CV 17 and 18, or CV 1, and then the bit of CV 29 that chooses."""
+        self.may()
+        self.station.loses = 0
+        told, wrong, status = self.programs("address", 1234)
+        self.assertEqual((told.splitlines()[-2:], wrong, status),
+                         (["CV 29 = 38 (steps, analog, long), was 6", "its long address is 1234"], "", 0))
+        self.assertEqual([self.station.decoder[cv] for cv in (1, 17, 18, 29)], [3, 192 + 4, 210, 38])
+        written = [command.split()[1] for command in self.told() if command[0] == "W"]
+        self.assertEqual(list(dict.fromkeys(written)), ["17", "18", "29"])
+        told, wrong, status = self.programs("address", 77)
+        self.assertEqual((told.splitlines()[0::2], wrong, status),
+                         (["CV 1 = 77, was 3", "its short address is 77"], "", 0))
+        self.assertEqual([self.station.decoder[cv] for cv in (1, 17, 18, 29)], [77, 196, 210, 6])
+        for address, cvs in ((127, {1: 127}), (128, {17: 192, 18: 128}), (10239, {17: 231, 18: 255})):
+            self.assertEqual(self.programs("address", address)[2], 0)
+            self.assertEqual({cv: self.station.decoder[cv] for cv in cvs}, cvs)
+
+    def test_program_switches_a_bit(self):
+        """It leaves the others as they are."""
+        self.may()
+        self.station.loses = 0
+        self.assertEqual(self.programs("bit", "turned", "on"), ("CV 29 = 7 (turned, steps, analog), was 6\n", "", 0))
+        self.assertEqual(self.programs("bit", "analog", "off"), ("CV 29 = 3 (turned, steps), was 7\n", "", 0))
+        self.assertEqual(self.programs("bit", "steps", "on"), ("CV 29 = 3 (turned, steps), was 3\n", "", 0))
+
+    def test_program_leaves_a_decoder_within_reach(self):
+        """What would have it answer to no address is refused, unless it is to be written anyway."""
+        self.may()
+        self.station.loses = 0
+        was = dict(self.station.decoder)
+        for cv, value, why in ((1, 0, "0 is no short address"), (1, 128, "128 is no"), (1, 255, "255 is no"),
+                               (17, 191, "191 begins no long address"), (17, 232, "232 begins"), (17, 0, "0 begins"),
+                               (8, 8, "a value that is written there resets"), (29, 38, "then CV 17 counts: 0 begins")):
+            self.station.decoder[17] = 0 if cv == 29 else was[17]
+            out, wrong, status = self.programs("write", cv, value)
+            self.assertRegex(wrong, f"^CV {cv}: {why}.*--anyway writes it\n$")
+            self.assertEqual((out, status), ("", 1))
+        self.station.decoder[1], self.station.decoder[29] = 200, 38
+        self.assertRegex(self.programs("bit", "long", "off")[1], "^CV 29: then CV 1 counts: 200 is no short address")
+        self.assertEqual([command for command in self.told() if command[0] == "W"], [])
+        for cv, value, told in ((1, 127, "CV 1 = 127, was 200\n"), (17, 231, "CV 17 = 231, was 0\n")):
+            self.assertEqual(self.programs("write", cv, value), (told, "", 0))
+        self.assertEqual(self.programs("--anyway", "write", 17, 128), ("CV 17 = 128, was 231\n", "", 0))
 
     def test_program_shows_the_twenty_that_people_change(self):
         self.may()
@@ -81,7 +127,7 @@ class Programs(StationCase):
     def test_program_finds_no_decoder(self):
         self.may()
         self.station.decoder = {}
-        for words in (["read", 1], ["write", 1, 3], ["table"]):
+        for words in (["read", 1], ["write", 1, 3], ["table"], ["--anyway", "write", 1, 3]):
             out, wrong, status = self.programs(*words)
             self.assertRegex(wrong, "^CV [18]: no decoder answers\n$")
             self.assertEqual((out, status), ("", 1))
@@ -103,11 +149,14 @@ class DccExWithPrograms(Programs, DccExCase):
     no_track = "416 the station has no programming track"
 
     def test_program_has_wrong_words(self):
-        """Also those that name no CV or no value end it with status 2."""
+        """Also those that name no CV or no value end it with status 2, and one line."""
         for words in (["read", 0], ["read", 1025], ["write", 1, 256], ["write", 1, -1], ["write", 1], ["read"],
-                      ["verify", 1, 2, 3], ["table", 1], ["erase", 1], []):
+                      ["verify", 1, 2, 3], ["table", 1], ["erase", 1], [], ["address", 0], ["address", 10240],
+                      ["address"], ["bit", "turned"], ["bit", "32", "on"], ["bit", "long", "yes"], ["read", "x"],
+                      ["--bus", "x", "read", 1]):
             out, wrong, status = self.programs(*words)
-            self.assertEqual((out, status, "Traceback" in wrong), ("", 2, False), words)
+            self.assertRegex(wrong, "^program.py: .+\n$")
+            self.assertEqual((out, status, wrong.count("\n")), ("", 2, 1), words)
         self.assertEqual(self.told(), [])
 
     def test_program_needs_a_driver(self):

@@ -57,7 +57,8 @@ def at_the_plan(port):
     until(lambda: browser.run("document.querySelectorAll('#drawing g').length") > 4, "a plan")
     until(lambda: browser.run("document.getElementById('GA')?.children.length ?? 0") > 4, "the accessories of routes")
     for name in "WP":
-        browser.run(f"document.querySelector('#drawing g[data-name=\"{name}\"]').onclick()")
+        element = f"document.querySelector('#drawing g[data-name=\"{name}\"]')"
+        browser.run(f"{element}.dispatchEvent(new MouseEvent('click'))")
     until(lambda: browser.run("!!document.querySelector('#drawing path.set')"), "a route that is set")
     browser.end()
 
@@ -100,8 +101,8 @@ class Readme(unittest.TestCase):
         yield
         at_the_plan(reader.ports["8305"])
         yield
-        for row in ("100 INFO 1 FB 1 1", "100 INFO 1 FB 1 0"):
-            station.types("1")
+        for row in ("100 INFO 1 FB 5 1", "100 INFO 1 FB 5 0"):
+            station.types("5")
             until(lambda: row in rows(server), row)
         yield
 
@@ -130,7 +131,7 @@ class Readme(unittest.TestCase):
         unit = (PROGRAMS / "units" / "srcp_bridge@.service").read_text()
         own = (common.TOP / "examples" / "srcp_server.service").read_text()
         differ = {"RestrictAddressFamilies", "IPAddressAllow", "LimitNOFILE", "MemoryMax", "ExecStart", "ExecStartPre",
-                  "ExecReload"}
+                  "ExecStartPost", "ExecReload"}
         hard = {line for line in own.partition("[Service]")[2].splitlines() if "=" in line and not line.startswith("#")}
         hard = {line for line in hard if line.partition("=")[0] not in differ}
         self.assertEqual(hard - set(unit.splitlines()), set())

@@ -35,6 +35,14 @@ SEQUENCES = {  # of a command session: what is sent, and the reply without its s
         ("INIT 1 GL 3 N 1 128 5", OK), ("GET 1 DESCRIPTION GL 3", "101 INFO 1 GL 3 N 1 128 5"), ("SET 1 POWER ON", OK),
         ("SET 1 GL 3 1 20 128 1 0 0 0 0", OK), ("GET 1 GL 3", "100 INFO 1 GL 3 1 20 128 1 0 0 0 0"),
         ("SET 1 GL 3 2 0 128", OK), ("TERM 1 GL 3", OK), ("GET 1 DESCRIPTION GL 3", "416 ERROR no data")],
+    "a throttle with more functions than the locomotive": [
+        ("INIT 1 GL 3 N 1 28 1", OK), ("SET 1 GL 3 1 20 28 1 1 1 1 1", OK),
+        ("GET 1 GL 3", "100 INFO 1 GL 3 1 20 28 1"), ("set 1 gl 3 2 0 28 0 0 0 0 0\r", OK),
+        ("GET 1 GL 3", "100 INFO 1 GL 3 2 0 28 0"), ("SET 1 GL 3 0 9 28" + " 1" * 40, OK),
+        ("CHECK 1 GL 3 1 9 28 1 1", OK), ("GET 1 GL 3", "100 INFO 1 GL 3 0 9 28 1"),
+        ("SET 1 GL 3 1 29 28 1 1", WRONG), ("SET 1 GL 3 1 9 28 1 2", WRONG), ("SET 1 GL 98 2 0 0 1 1", NO_DATA),
+        ("INIT 1 GL 3 N 1 28 1 1", LONG), ("TERM 1 GL 3", OK), ("INIT 1 GL 3 N 1 28 0", OK),
+        ("SET 1 GL 3 1 9 28 1", OK), ("GET 1 GL 3", "100 INFO 1 GL 3 1 9 28")],
     "a throttle with a lock": [
         ("INIT 1 GL 4 P", OK), ("SET 1 LOCK GL 4 0", OK), ("SET 1 GL 4 0 9 28", OK), ("TERM 1 LOCK GL 4", OK)],
     "an analog locomotive": [("INIT 1 GL 5 A 1 28 5", OK), ("GET 1 DESCRIPTION GL 5", "101 INFO 1 GL 5 P 1 28 5")],
@@ -143,7 +151,7 @@ class Srcpd(Case):
         return Client(self.listen, mode)
 
     def test_sequences(self):
-        self.assertEqual(len(SEQUENCES), 22)
+        self.assertEqual(len(SEQUENCES), 23)
         for at_once in (False, True):
             for name, sequence in SEQUENCES.items():
                 client = Client(self.listen)
@@ -254,7 +262,7 @@ class Srcpd(Case):
         client = self.client()
         panel = self.client("INFO")
         waits = self.client()
-        waits.send("WAIT 1 FB 9 1 86400")
+        waits.send("WAIT 1 FB 9 1 86400", "GET 1 POWER", "SET 1 GL 3 2 0 0", "GET 1 POWER")
         time.sleep(0.3)
         joined = self.proxy.told().count("server: joined")
         self.restart()
@@ -265,6 +273,40 @@ class Srcpd(Case):
                          ["100 INFO 0 SERVER RUNNING", "100 INFO 1 POWER OFF"])
         self.assertEqual(self.proxy.end(), 0)
         self.assertNotIn("Traceback", self.proxy.told())
+
+    def test_a_stop_with_more_functions_than_the_locomotive(self):
+        """It is carried out also if another has made the locomotive anew, with fewer; its lock keeps it from that."""
+        client = self.client()
+        client.ask("INIT 1 GL 3 N 1 28 5", "SET 1 GL 3 1 20 28 1 1 1 1 1")
+        self.throttle.order("INIT 1 GL 3 N 1 28 2", "SET 1 GL 3 1 20 28")
+        self.assertEqual(client.ask("SET 1 GL 3 2 0 28 1 1 1 1 1", "GET 1 POWER"), [OK, "100 INFO 1 POWER OFF"])
+        self.assertEqual(self.throttle.ask("GET 1 GL 3"), "100 INFO 1 GL 3 2 0 28 1 1")
+        self.throttle.order("SET 1 GL 3 1 20 28", "SET 1 LOCK GL 3 0")
+        self.assertEqual(client.ask("SET 1 GL 3 2 0 28 1 1 1 1 1"), ["414 ERROR device locked"])
+
+    def test_turnouts_by_port_0_alone(self):
+        """As JMRI throws them, from memory. Without the word port 0 is passed on as it is."""
+        listen = free_port()
+        proxy = self.starts("srcpd.py", "--listen", listen, "--one-port")
+        until(lambda: connects(listen) and "server: joined" in proxy.told(), "the proxy is there")
+        direct, panel, throws = (Client(port, mode) for port, mode in (
+            (self.server.port, "INFO"), (listen, "INFO"), (listen, "COMMAND")))
+        self.assertEqual(throws.ask("INIT 1 GA 5 N", "SET 1 GA 5 0 1 -1", "set 1 ga 5 0 0 -1"), [OK] * 3)
+        self.throttle.order("SET 1 GA 5 1 1 20")
+        self.assertEqual(throws.ask("SET 1 GA 5 0 2 -1", "SET 1 GA 5 0 1", "SET 1 FB 7 1"), [WRONG, SHORT, OK])
+        lines = [[line for line in client.lines_until("100 INFO 1 FB 7 1") if " GA 5 " in line]
+                 for client in (direct, panel)]
+        self.assertEqual([line for line in lines[0] if line.endswith(" 1")],
+                         ["100 INFO 1 GA 5 1 1", "100 INFO 1 GA 5 0 1", "100 INFO 1 GA 5 1 1"])
+        self.assertEqual(lines[1], ["101 INFO 1 GA 5 N"] + ["100 INFO 1 GA 5 0 1", "100 INFO 1 GA 5 0 0",
+                                                            "100 INFO 1 GA 5 0 1"])
+        self.has("100 INFO 1 GA 5 0 0", "100 INFO 1 GA 5 1 0")  # the coils are off again
+        for lies in (1, 0, 1):
+            self.assertEqual(throws.ask(f"SET 1 GA 5 0 {lies} -1", "get 1 ga 5 0"), [OK, f"100 INFO 1 GA 5 0 {lies}"])
+        self.has("100 INFO 1 GA 5 0 0", "100 INFO 1 GA 5 1 0")
+        self.assertEqual(throws.ask("GET 1 GA 5 0", "GET 1 GA 5 1", "GET 1 GA 6 0", "GET 1 GA x 0", "GET 3 GA 5 0"),
+                         ["100 INFO 1 GA 5 0 1", "100 INFO 1 GA 5 1 0", NO_DATA, WRONG, WRONG])
+        self.assertEqual(self.client().ask("SET 1 GA 5 0 0 -1", "GET 1 GA 5 0"), [OK, "100 INFO 1 GA 5 0 0"])
 
     def test_a_server_that_is_slow(self):
         """What the program answers itself comes after the replies to the lines before it."""
@@ -317,6 +359,8 @@ class SrcpdWithADriver(DccExCase):
     def test_a_programmer(self):
         client = Client(self.listen, "COMMAND")
         for sent, reply in [
+                ("GET 1 DESCRIPTION", "100 INFO 1 DESCRIPTION POWER GL GA FB LOCK SM DESCRIPTION"),
+                ("GET 2 DESCRIPTION", "100 INFO 2 DESCRIPTION GA FB LOCK DESCRIPTION"),
                 ("GET 1 SM 0 CV 29", NO_DATA), ("TERM 1 SM", NO_DATA), ("INIT 1 SM MM", PROTOCOL), ("INIT 1 SM", SHORT),
                 ("INIT 1 SM NMRA", OK), ("GET 1 SM 0 CV 29", "100 INFO 1 SM 0 CV 29 6"), ("SET 1 SM 0 CV 29 38", OK),
                 ("get 1 sm 0 cv 29", "100 INFO 1 SM 0 CV 29 38"), ("VERIFY 1 SM 0 CV 29 38", OK),

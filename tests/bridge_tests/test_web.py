@@ -24,13 +24,14 @@ class Events:
         self.gone = []
         self.events = []
         self.stops = {}
+        self.stood = None
         self.ways = {}
         self.lies = {}
         self.answers = answers
         self.headers = headers
         self.own = own
         self.connection = self.connect()
-        self.connection.request("GET", "/events", headers=headers)
+        self.connection.request("GET", f"/events?{self.version()}", headers=headers)
         self.socket, self.stream = self.connection.sock, self.connection.getresponse()
         self.status = self.stream.status
         if self.status == 200:
@@ -39,6 +40,14 @@ class Events:
 
     def connect(self):
         return http.client.HTTPConnection("127.0.0.1", self.port, timeout=WAIT, source_address=(self.own, 0))
+
+    def version(self):
+        """What the page names as it joins: its own."""
+        connection = self.connect()
+        connection.request("GET", "/", headers=self.headers)
+        found = re.search('data-version="(.*?)"', connection.getresponse().read().decode())
+        connection.close()
+        return found[1] if found else ""
 
     def read(self):
         event = None
@@ -66,6 +75,8 @@ class Events:
             threading.Thread(target=self.lives, daemon=True).start()
         elif event == "stop":
             self.stops |= {tuple(map(int, key.split(" GL "))): count for key, count in data.items()}
+        elif event == "stood":
+            self.stood = data
         elif event == "row" and data["row"]:
             bus, group, address, part = key = tuple(data["key"])
             self.rows[key] = data["row"]
@@ -113,7 +124,7 @@ class Events:
 
 class WebCase(Case):
     program = "web"
-    words = ()
+    words: tuple[object, ...] = ()
 
     def setUp(self):
         super().setUp()

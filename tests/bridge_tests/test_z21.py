@@ -4,7 +4,7 @@ import subprocess
 import sys
 import time
 
-from .common import LAYOUT, PROGRAMS, WAIT, Session, free_port, rows
+from .common import LAYOUT, PROGRAMS, WAIT, Session, free_port, position_of, rows, until
 from .stations import QUIET, STANDS, Drives, Hands, Losses, StationCase
 
 
@@ -20,7 +20,7 @@ class Z21Case(StationCase):
         from simulated_z21 import Z21
         port = free_port()
         self.where = f"127.0.0.1:{port}"
-        return Z21(port)
+        return Z21(port, **self.behaves)
 
     def drives(self):
         """Returns once the driver tells nothing again, since all is confirmed."""
@@ -36,10 +36,6 @@ class Z21(Drives, Z21Case):
             self.station.sensor(number, 1)
         self.has(*[f"100 INFO 1 FB {number} 1" for number in (80, 81, 100)])
         self.assertEqual(len([row for row in rows(self.server.port) if " FB " in row and row.endswith(" 1")]), 4)
-
-    def test_many_emergency_stops_are_one_command_first(self):
-        self.station.loses = 0
-        super().test_many_emergency_stops_are_one_command_first()
 
     def test_half_of_all_datagrams_are_lost(self):
         """Each command is told again until the station confirms it, an emergency stop before what follows it."""
@@ -104,13 +100,13 @@ class Z21WithLosses(Losses, Z21Case):
     def test_what_a_station_reports_without_a_question(self):
         self.restarts("--silence", 10 * WAIT)
         self.station.loses = 0
-        for act, why in ((self.station.stop, "station says off"), (lambda: self.station.switch(0), "station says off"),
+        for act, why in ((self.station.stop, "all stood"), (lambda: self.station.switch(0), "station says off"),
                          (self.station.overload, "overload"), (self.station.program, "programming")):
             self.goes_off(act, why)
 
     def test_what_a_station_reports_in_vain(self):
         """The driver asks for it."""
-        for act, why in ((self.station.stop, "station says off"), (self.station.overload, "overload"),
+        for act, why in ((self.station.stop, "all stood"), (self.station.overload, "overload"),
                          (self.station.program, "programming")):
             self.station.loses = 1
             self.goes_off(act, why)
@@ -127,6 +123,42 @@ class Z21WithLosses(Losses, Z21Case):
         self.station.deaf = False
         self.track(lambda s: s.power == 1, "power is on")
 
+    def test_what_a_hand_began_to_drive_just_before_a_loss_and_the_report_was_lost(self):
+        """The station keeps that speed while its power is off. Nothing starts with the power."""
+        self.throttle.order("SET 1 GL 3 1 0 28")
+        self.track(lambda s: s.cabs[3] == (0, 1), "it stands")
+        for _ in range(3):
+            time.sleep(QUIET)
+            self.station.loses = 1
+            self.station.hand(3, 90)
+            self.station.loses = 0
+            self.station.overload()
+            self.has("100 INFO 1 POWER OFF overload")
+            self.throttle.order("SET 1 POWER ON")
+            self.track(lambda s: s.power == 1, "power is on")
+            time.sleep(3 * QUIET)
+            self.assertEqual(self.station.cabs[3], (0, 1))
+
+    def test_what_a_hand_began_to_drive_just_before_it_is_removed_and_the_report_was_lost(self):
+        self.throttle.order("SET 1 GL 3 1 0 28")
+        self.track(lambda s: s.cabs[3] == (0, 1), "it stands")
+        time.sleep(QUIET)
+        self.station.loses = 1
+        self.station.hand(3, 90)
+        self.station.loses = 0
+        self.throttle.order("TERM 1 GL 3")
+        self.track(lambda s: s.cabs[3] == (0, 1), "it stands", 5)
+
+    def test_what_is_gone_as_the_station_forgets_the_driver(self):
+        """It has not heard that this stands. It is told so anew, though the registry does not have it any more."""
+        self.station.deaf = True
+        self.throttle.order("TERM 1 GL 3")
+        time.sleep(QUIET)
+        self.station.clients.clear()
+        until(lambda: "has forgotten this program" in self.driver.told(), "the driver knows of it")
+        self.station.deaf = False
+        self.track(lambda s: s.cabs[3][0] <= 0, "it stands")
+
     def test_a_station_that_programs_a_decoder(self):
         """Power counts as off. The station is told nothing that would end the programming, until somebody does."""
         self.station.program()
@@ -139,7 +171,7 @@ class Z21WithLosses(Losses, Z21Case):
 
     def test_a_locomotive_that_drove_before_the_driver_came(self):
         """It has no function on, so that nothing else has the station report it: it is told to stand too."""
-        self.driver.end(signal.SIGKILL)
+        self.dies()
         self.throttle.order("INIT 1 GL 3 N 1 28 0", "INIT 1 GL 4 N 1 28 0")
         self.station.functions.clear()
         self.station.cabs[4] = 40, 1
@@ -148,7 +180,7 @@ class Z21WithLosses(Losses, Z21Case):
 
     def test_speeds_that_a_station_keeps(self):
         """What drove there before the driver came is told to stand before the power comes."""
-        self.driver.end(signal.SIGKILL)
+        self.dies()
         self.throttle.order("SET 1 GL 3 1 0 28", "SET 1 POWER OFF")
         self.assertEqual(self.station.cabs[3], (63, 1))
         self.start()
@@ -159,7 +191,7 @@ class Z21WithLosses(Losses, Z21Case):
 
     def test_a_station_that_reports_what_it_did_before_it_heard(self):
         """That is no hand throttle: the registry stays as it is, and is not changed for a moment either."""
-        self.driver.end(signal.SIGKILL)
+        self.dies()
         self.throttle.order("SET 1 GL 3 1 0 28", "SET 1 POWER OFF")
         panel = Session(self.server.port, "INFO")
         self.station.deaf = True
@@ -192,6 +224,11 @@ class Z21WithHands(Hands, Z21Case):
         self.has("100 INFO 1 GL 3 1 23 28")
         self.assertEqual(self.commands("t 3")[-1], "t 3 63 1")
 
+    def test_a_hand_throttle_drives_in_the_steps_of_the_decoder(self):
+        self.station.hand(3, speed=30)
+        self.has("100 INFO 1 GL 3 1 6 28")
+        self.assertEqual(self.station.cabs[3], (27, 1))
+
     def test_what_a_hand_drives_is_made_in_its_steps(self):
         """Its decoder may know no others: it would miss a stop."""
         self.station.loses, self.station.steps[77] = 0, 2
@@ -201,12 +238,77 @@ class Z21WithHands(Hands, Z21Case):
         self.track(lambda s: s.cabs[77] == (-1, 1), "it stops")
         self.assertEqual((self.commands("t 77"), self.station.steps[77]), (["t 77 -1 1"], 2))
 
+    def throws(self, port, time_of_pulse="20"):
+        """Makes turnout 5 and throws it; returns once the station has confirmed that."""
+        self.throttle.order("INIT 1 GA 5 N", f"SET 1 GA 5 {port} 1 {time_of_pulse}")
+        self.track(lambda s: s.turnouts.get(5) == port and not s.outputs, "it is thrown")
+        self.track(lambda s: time.monotonic() - s.commanded > 2 * QUIET, "and confirmed")
+
+    def test_a_hand_throws_a_turnout(self):
+        """Its row follows, and the station is told nothing of it."""
+        self.throws(0, "-1")
+        self.station.throw(5, 1)
+        until(lambda: position_of(self.server.port, 1, 5) == 1, "its row follows")
+        self.has("100 INFO 1 GA 5 0 0", "100 INFO 1 GA 5 1 0")  # no port stays at 1
+        self.station.throw(6, 1)  # the registry does not have it
+        time.sleep(3 * QUIET)
+        self.assertEqual(self.commands("a "), ["a 5 0"])
+        self.lacks("101 INFO 1 GA 6")
+        self.throttle.order("SET 1 GA 5 0 1 20")
+        self.track(lambda s: s.turnouts[5] == 0, "it is thrown again")
+
+    def test_a_report_of_a_turnout_that_comes_late(self):
+        """It is no hand's doing: the station, asked, says otherwise."""
+        self.throws(1)
+        panel = Session(self.server.port, "INFO")
+        panel.hears_until(b" 100 INFO 2 FB 16 0\n")
+        for _ in range(5):
+            self.station.tell(1, 0x43, 0, 4, 1)
+            time.sleep(0.2)
+        time.sleep(2 * QUIET)
+        self.throttle.order("SET 1 FB 9 1")
+        told = ""
+        while "FB 9 1" not in told:
+            told = panel.line().decode()
+            self.assertNotIn(" GA 5 ", told)
+        self.assertEqual((position_of(self.server.port, 1, 5), self.commands("a ")), (1, ["a 5 1"]))
+
+    def test_a_hand_throws_a_turnout_that_another_has_locked(self):
+        """Its row stays, and every display is told; it is not thrown back. Once it is unlocked its row follows."""
+        holder = Session(self.server.port)
+        self.throws(0)
+        holder.order("SET 1 LOCK GA 5 0")
+        self.station.throw(5, 1)
+        self.has("100 INFO 1 POWER ON thrown by hand: 5 1", "100 INFO 1 GL 3 1 14")
+        time.sleep(2 * QUIET)
+        self.assertEqual((position_of(self.server.port, 1, 5), self.commands("a ")), (0, ["a 5 0"]))
+        holder.order("TERM 1 LOCK GA 5")
+        self.has("100 INFO 1 POWER ON confirms again")
+        until(lambda: position_of(self.server.port, 1, 5) == 1, "its row follows")
+        self.assertEqual(self.commands("a "), ["a 5 0"])
+
+    def test_what_a_hand_throws_while_the_power_is_off(self):
+        """Displays are told as somebody switches it on: the reason why it is off stays till then."""
+        holder = Session(self.server.port)
+        self.throws(0)
+        holder.order("SET 1 LOCK GA 5 0")
+        self.station.overload(), self.has("100 INFO 1 POWER OFF overload")
+        self.station.throw(5, 1)
+        until(lambda: "thrown turnout 5 to port 1" in self.driver.told(), "the driver has heard it")
+        time.sleep(QUIET)
+        self.has("100 INFO 1 POWER OFF overload")
+        self.throttle.order("SET 1 POWER ON")
+        self.has("100 INFO 1 POWER ON thrown by hand: 5 1")
+
     def test_what_a_hand_does_while_all_is_lost(self):
         """The driver asks for it again and again."""
+        self.throws(0)
         self.station.loses = 1
         self.station.hand(3, speed=45)
+        self.station.throw(5, 1)
         self.station.sensor(7, 1)
         time.sleep(QUIET)
         self.assertNotIn("100 INFO 1 FB 7 1", rows(self.server.port))
         self.station.loses = 0
         self.has("100 INFO 1 GL 3 1 10 28", "100 INFO 1 FB 7 1")
+        until(lambda: position_of(self.server.port, 1, 5) == 1, "the row of the turnout follows")

@@ -9,8 +9,9 @@ import tomllib
 
 
 class Route:
-    """`steps` has what it still orders, each a kind and a command. `held`: it may hold locks. `is_stuck`: its signal
-    could not be stopped."""
+    """`steps` has what it still orders, each a kind and a command. `asked`: somebody wants it. `leaves`: it goes back,
+    and does so to its end, whoever asks meanwhile. `held`: it may hold locks. `is_stuck`: its signal could not be
+    stopped."""
 
     def __init__(self, bus, given):
         self.bus = bus
@@ -40,7 +41,7 @@ class Route:
 
     def begins_anew(self):
         """A session has begun: no lock is held, and nobody has asked."""
-        self.wanted = self.held = self.is_stuck = self.is_set = self.goes = False
+        self.asked = self.leaves = self.held = self.is_stuck = self.is_set = self.goes = False
         self.steps = [*self.stop(), self.report(False)]
 
     def goes_forth(self):
@@ -61,11 +62,12 @@ class Route:
             may_show = kind == "report" or kind == "show" and was_tried
             self.steps = [*(self.stop() if may_show else []), self.report(False), *self.unlocks(locks)]
         self.goes = self.is_set = False
+        self.leaves = True
         self.comes_to_rest()
 
     def comes_to_rest(self):
-        if not self.steps and not self.is_set:
-            self.held = False
+        if self.is_idle():
+            self.held = self.leaves = False
 
     def is_idle(self):
         return not self.steps and not self.is_set
@@ -74,7 +76,7 @@ class Route:
 
     def replied(self, is_accepted):
         if not is_accepted:
-            self.wanted = False
+            self.asked = False
         if self.goes:
             if not is_accepted:
                 return self.goes_back(was_tried=True)
@@ -88,13 +90,19 @@ class Route:
             self.comes_to_rest()
 
     def given_back(self):
-        self.wanted = self.is_stuck = False
+        self.asked = self.is_stuck = False
+        self.leaves = not self.is_idle()
+
+    def released(self):
+        """Its train has passed. Who asked since it began to go back asks for the next train."""
+        self.asked = self.asked and self.leaves
+        self.leaves = True
 
     def order(self, free, is_clear):
         """Returns the command that it sends next, or None."""
-        if (self.goes or self.is_set) and not self.wanted:
+        if (self.goes or self.is_set) and self.leaves:
             self.goes_back()
-        elif self.is_idle() and self.wanted and self.blocks <= free and is_clear:
+        elif self.is_idle() and self.asked and self.blocks <= free and is_clear:
             self.goes_forth()
         if not self.steps or self.is_stuck or self.steps[0][0] == "show" and not self.blocks <= free:
             return None
@@ -102,21 +110,28 @@ class Route:
 
 
 class Interlocking:
-    """`free` has the sensors that are known to be 0; `waits` is the route whose reply is to come."""
+    """`free` and `occupied` have the sensors that were last told to be 0 or 1; `waits` is the route whose reply is to
+    come. `has_begun`: there was a session; before that nothing counts."""
 
     def __init__(self, plan):
         self.bus = plan["bus"]
         self.routes = [Route(plan["bus"], given) for given in plan.get("route", [])]
         self.free = set()
+        self.occupied = set()
+        self.has_begun = False
         self.waits = None
         self.others = {route: [other for other in self.routes if other is not route and route.conflicts(other)]
                        for route in self.routes}
 
     def take(self, line):
         """Takes a line in. Returns the order that follows, or None."""
-        match line.split():
+        words = line.split()
+        self.has_begun = self.has_begun or words[1:4] == ["200", "OK", "GO"] and len(words) == 5
+        match words if self.has_begun else []:
             case [_, "100", "INFO", bus, "FB", number, value]:
                 self.sensed((int(bus), int(number)), value == "1")
+            case [_, "102", "INFO", bus, "FB", number]:
+                self.sensed((int(bus), int(number)), None)
             case [_, "100", "INFO", bus, "GA", number, port, "1"] if int(bus) == self.bus:
                 self.pressed(int(number), int(port))
             case [_, "200", "OK", "GO", _]:
@@ -132,16 +147,18 @@ class Interlocking:
         return self.next()
 
     def sensed(self, sensor, is_on):
-        if not is_on and sensor not in self.free:
+        """A sensor is told to be 1 or 0; None: it is not known any more. Only a fall from 1 to 0 is that of a train."""
+        if is_on is False and sensor in self.occupied:
             for route in self.routes:
                 if route.held and route.frees == sensor:
-                    route.wanted = False
-        (self.free.discard if is_on else self.free.add)(sensor)
+                    route.released()
+        for sensors, value in (self.free, False), (self.occupied, True):
+            (sensors.add if is_on is value else sensors.discard)(sensor)
 
     def pressed(self, number, port):
         for route in self.routes:
             if route.number == number and port == 1:
-                route.wanted = True
+                route.asked = True
             elif route.number == number and port == 0:
                 route.given_back()
 

@@ -1,31 +1,43 @@
 """A bus of the server, and the track that it stands for."""
 import asyncio
+from collections.abc import Callable
+from functools import partial
 
 from srcp_bridges.program import say
-from srcp_bridges.rows import EMERGENCY_STOP
+from srcp_bridges.rows import (ALL_STOOD, CONFIRMED, EMERGENCY_STOP, NO_DRIVER, NO_STATION, STOP_ALL, THROWN,
+                               UNCONFIRMED, Power, switches)
 from srcp_bridges.srcp import Mirror
+from srcp_bridges.state import driven
 from srcp_bridges.stations.holds import Holds
 from srcp_bridges.stations.registry import POWER, Orders
 from srcp_bridges.stations.track import Track
 
 TOGETHER = 0.5  # seconds for which those are collected that cannot be driven
+FOLLOWS = 0.5  # seconds after a STOP ALL within which the rows of locomotives follow
+MOST = 9  # locomotives that a text of power has room for
 
 
 class Bus:
     """Takes in the rows of a bus: marks what differs on its track, and holds what moves after a loss.
 
-    `many_stop` is called when so many locomotives make an emergency stop that the station is to stop all.
+    `stop_at_once` is called as a STOP ALL comes. `stopping`: it is still to be confirmed. `silent` has the locomotives
+    that do not confirm what they are told.
     """
 
-    def __init__(self, asked, names, many_stop):
+    def __init__(self, asked, names, stop_at_once):
         self.number = asked.bus
         self.patience = asked.patience
         self.names = names
-        self.many_stop = many_stop
+        self.stop_at_once = stop_at_once
+        self.stopping = False
+        self.silent: frozenset[int] = frozenset()
         self.mirror = Mirror(asked, self.take, self.join, self.leave, keeps_place=True)
         self.orders = Orders(self.mirror)
         self.holds = Holds(self.number, self.mirror, self.orders)
         self.track = Track(self.number, self.mirror, self.holds, asked.turnout_pace, self.full)
+        self.holds.changed = self.track.mark
+        self.unlocked: Callable[[int], None] = lambda address: None  # nobody has a turnout locked any more
+        self.elsewhere: set[int] = set()  # other buses, which drivers of this machine drive
         self.told_of: set[str] = set()  # devices that cannot be driven
         self.untold: list[str] = []
         self.slotless: set[int] = set()  # locomotives for which there was no slot as they were to drive
@@ -42,6 +54,8 @@ class Bus:
             return
         if group == "GA" and part != "lock":
             self.track.mark(("turnout", address))
+        elif group == "GA" and not change.row:
+            self.unlocked(address)
         elif group == "POWER":
             if change.row:
                 self.power(change)
@@ -49,6 +63,8 @@ class Bus:
         elif group == "GL" and part == "does" and change.row:
             self.locomotive(address, change)
         elif group == "GL" and part != "lock":
+            if not change.row and self.track.at_first:  # a hand may have it drive, and its report be lost
+                self.track.forgets(("cab", address))
             self.gone(address)
 
     def is_listed(self, change):
@@ -56,9 +72,53 @@ class Bus:
         return change.before is None or change.key in self.mirror.stale
 
     def power(self, change):
-        self.holds.take(POWER, change.row, self.is_listed(change))
-        if not change.row.on and change.row.text == "stop all":  # what another had locked was not stopped
-            self.lose("stop all")
+        row, before = change.row, change.before
+        self.holds.take(POWER, row, self.is_listed(change))
+        if row.on and before and not before.on and not switches(row):  # it went off as that was on its way
+            self.holds.hold(POWER, row, STOP_ALL if row.text == STOP_ALL else before.text)
+        if row.text == STOP_ALL:
+            self.stop_all(row)
+        elif not row.text.startswith((UNCONFIRMED, THROWN)):
+            self.stopping = False
+        if not row.on and row.text == NO_DRIVER:  # this program slept
+            self.lose(NO_DRIVER)
+
+    def stop_all(self, row: Power) -> None:
+        """Has all stand at once, until a command that is newer than that row."""
+        self.stopping = True
+        self.stop_at_once()
+        self.holds.stop_all(row.stamp)
+        if not self.holds.station and not row.on:
+            self.holds.set_power(NO_STATION)
+        self.mark_held()
+        self.stop_unseen()
+        asyncio.get_running_loop().call_later(FOLLOWS, self.holds.rest_all)
+
+    def all_stood(self) -> None:
+        """The station has confirmed that all stand."""
+        self.stopping = not self.tell_power(ALL_STOOD)
+
+    def tell_silent(self, silent: frozenset[int]) -> None:
+        """Tells every display which locomotives do not confirm what they are told, and when they do again."""
+        if silent == self.silent:
+            return
+        self.silent, addresses = silent, " ".join(map(str, sorted(silent)[:MOST]))
+        say(f"the station does not confirm: {addresses}" if silent else "the station confirms again")
+        if silent or not self.stopping:
+            self.tell_power(f"{UNCONFIRMED} {addresses}" if silent else CONFIRMED)
+
+    def tell_power(self, text: str) -> bool:
+        """Has the row of power say something, unless it is about to say something else; returns whether it will."""
+        is_free = POWER not in self.orders.due and POWER not in self.holds.held
+        if is_free:
+            self.orders.put(POWER, partial(self.say_power, text))
+        return is_free
+
+    async def say_power(self, text: str) -> None:
+        row = await self.mirror.get((self.number, "POWER", 0, "does"))  # what the panel told may be of before
+        answers = row and row.text.startswith((STOP_ALL, UNCONFIRMED))
+        if row and (answers or row.on and text.startswith((STOP_ALL, UNCONFIRMED))):
+            await self.mirror.ask(f"SET {self.number} POWER {'ON' if row.on else 'OFF'} {text}")
 
     def locomotive(self, address, change):
         row = change.row
@@ -67,8 +127,6 @@ class Bus:
         made, _ = self.track.locomotive(address)
         if row.mode == EMERGENCY_STOP and part in self.track.told:
             self.track.stops.add(address)
-            if self.track.many_stop():
-                self.many_stop()
         if made:
             self.holds.take(part, row, self.is_listed(change))
         elif row.v:
@@ -81,10 +139,15 @@ class Bus:
                 self.track.mark(("function", address, number))
 
     def gone(self, address):
-        self.holds.held.discard(("cab", address))
+        self.holds.free(("cab", address))
         self.track.stops.discard(address)
         self.slotless.discard(address)
         self.track.mark_locomotive(address)
+
+    def addresses(self) -> set[int]:
+        """Returns the locomotives that the registry has and that can be driven."""
+        made = {key[2] for key in self.mirror.rows if key[::3] == (self.number, "is") and key[1] == "GL"}
+        return {address for address in made if self.track.locomotive(address)[0]}
 
     # ---- what cannot be driven
 
@@ -95,7 +158,7 @@ class Bus:
     def fault_of(self, bus, group, address, row):
         """Returns why a device is not driven, or None."""
         if bus != self.number:
-            return f"not on bus {self.number}"
+            return None if bus in self.elsewhere else f"not on bus {self.number}"
         if row.protocol not in "NP":
             return f"protocol {row.protocol}"
         return f"the station has {self.track.slots} slots" if group == "GL" and address in self.slotless else None
@@ -103,6 +166,7 @@ class Bus:
     def left_out(self):
         """Returns why devices are not driven, by their names."""
         self.slotless -= self.track.known
+        self.elsewhere = driven(self.mirror.server[1])
         made = [(key, row) for key, row in self.mirror.rows.items() if key[1] in ("GL", "GA") and key[3] == "is"]
         faults = {f"{bus} {group} {address}": self.fault_of(bus, group, address, row)
                   for (bus, group, address, _), row in made}
@@ -135,6 +199,7 @@ class Bus:
     def join(self, anew):
         if self.patience_ends:
             self.patience_ends.cancel()
+        self.elsewhere = driven(self.mirror.server[1])
         self.holds.server_comes()
         for address in list(self.track.others if anew else ()):  # while it was away, hands had them drive: they stand
             self.track.take_in(address)
@@ -148,11 +213,19 @@ class Bus:
     def lose_server(self):
         self.holds.server_goes()
         self.mark_held()
+        self.stop_unseen()
 
     def lose(self, why):
         """Has all rest that is on or drives, until somebody commands it anew."""
         self.holds.lose(why)
         self.mark_held()
+        self.stop_unseen()
+
+    def stop_unseen(self) -> None:
+        """Has those stand too whose rows say that they do, if the station keeps speeds while all stand: the report of a
+        hand may be lost, and what it drives would start with the power."""
+        for address in sorted(self.addresses() - {part[-1] for part in self.holds.held} if self.track.at_first else ()):
+            self.track.forgets(("cab", address))
 
     def mark_held(self):
         for part in list(self.holds.held):
@@ -163,4 +236,5 @@ class Bus:
         self.track.begin_anew()
 
     def station_goes(self):
+        self.stopping, self.silent = False, frozenset()
         self.holds.station_goes()

@@ -1,16 +1,17 @@
-"""A driver of a station that hears commands by datagrams, which get lost: it is told again what it does not confirm."""
+"""A driver of a station that may miss commands: it is told again what it does not confirm."""
 import asyncio
 from typing import Any
 
 from srcp_bridges.rows import FORWARD
-from srcp_bridges.stations.datagrams import Datagrams
+from srcp_bridges.stations.awaited import Awaited
 from srcp_bridges.stations.hands import OFF
 from srcp_bridges.stations.registry import POWER
 from srcp_bridges.stations.station import PACE, Station
-from srcp_bridges.stations.track import FUNCTIONS
+from srcp_bridges.stations.track import DRIVING, FUNCTIONS, URGENT
 
 CONFIRMS = 0.25  # seconds within which the station confirms what it was told
 TICK = 0.1  # seconds between two looks at what is not confirmed
+SLEPT = 1.0  # seconds between two looks if this program slept
 LEAVING = 2.0  # seconds, at most, until all stand at the end
 
 
@@ -20,44 +21,49 @@ class Confirmed(Station):
     The driver of one kind of station calls `heard_power`, `heard_locomotive` and `confirm` with what reports say. It
     gives also `look`, which asks for what the station may have reported in vain.
     """
-    ANSWER = 0.2
-    REPEATS: float | None = 3.0  # seconds, more than a CV takes
-    where: tuple[str, int]
+    IN_ORDER = False  # what it is told comes in order, or not at all: then a stop waits for no speed to be confirmed
+    CONFIRMED: tuple[str, ...] = "power", "cab", "function"  # the kinds of parts that it confirms
 
     def __init__(self, asked):
         super().__init__(asked)
-        self.awaited: dict[tuple, tuple[float, Any]] = {}  # what the station was told of a part, and when
+        self.awaited = Awaited(CONFIRMS)
         self.track.awaits = self.awaits
-        self.track.at_first = -1, None  # it may hold a speed of before
         self.sensed: dict[int, int] = {}
 
     def look(self) -> None:
-        raise NotImplementedError
-
-    async def connect(self) -> Datagrams:
-        return await Datagrams.open(self.where)
+        """Asks for what the station may have reported in vain."""
 
     def awaits(self, part):
-        """Returns whether a part is still to be confirmed. A locomotive is forgotten after all of its parts."""
+        """Returns whether a part is told nothing yet. A locomotive is forgotten after all of its parts are confirmed,
+        and power comes after all stops are."""
         if part[0] == "forget":
-            return any(other[:2] in (("cab", part[1]), ("function", part[1])) for other in self.awaited)
-        return part in self.awaited
+            return any(other[:2] in (("cab", part[1]), ("function", part[1])) for other in self.awaited.parts)
+        urgency, value = self.track.wanted(part)
+        if part == POWER and value and self.is_stopping():
+            return True
+        if self.IN_ORDER and (urgency == URGENT or part[0] == "cab" and urgency < DRIVING):
+            return urgency > URGENT and self.awaited.is_emergency(part)  # it may be lost: then no 0 takes its place
+        return part in self.awaited.parts
+
+    def is_stopping(self) -> bool:
+        """Returns whether a locomotive is still to be told to stand, or has not confirmed that it does."""
+        waits = any(part[0] == "cab" for waiting in self.track.waiting[:DRIVING] for part in waiting)
+        return waits or self.awaited.stops(asyncio.get_running_loop().time())
 
     def telling(self, part, value):
         super().telling(part, value)
-        if part[0] != "forget":
-            self.awaited[part] = asyncio.get_running_loop().time(), value
+        if part[0] in self.CONFIRMED:
+            self.awaited.tell(part, value, asyncio.get_running_loop().time())
 
     def has_heard(self, part, value):
         """Returns whether a report may tell what a hand does: not if the station is to be told something else."""
-        if part in self.awaited:
-            return value == self.awaited[part][1]
+        if part in self.awaited.parts:
+            return value == self.awaited.parts[part][1]
         return all(value == waiting.get(part, value) for waiting in self.track.waiting)
 
-    def confirm(self, part, value):
+    def confirm(self, part: tuple, value: Any) -> bool:
         """Takes in that a part is so; returns whether that was awaited."""
-        if is_so := part in self.awaited and self.awaited[part][1] == value:
-            del self.awaited[part]
+        if is_so := self.awaited.confirm(part, value):
             self.hands.reports.sent[part].clear()
             self.hands.reports.reported[part] = value
             self.track.changed.set()
@@ -75,6 +81,10 @@ class Confirmed(Station):
         before = self.hands.reports.reported.get(part, (0, FORWARD))
         speed, way = drives if drives[0] <= 0 or self.has_heard(part, drives) else before
         self.hands.locomotive(address, speed, way, functions)
+        is_stop = self.IN_ORDER and drives[0] < 0 and part not in self.awaited.parts  # none of before
+        if is_stop and drives == self.track.waiting[URGENT].get(part):
+            self.track.told[part] = drives  # it has made the stop of all, and need not be told it by itself
+            self.track.mark(part)
         self.confirm(part, drives)
         for number in range(FUNCTIONS):
             self.confirm(("function", address, number), functions >> number & 1)
@@ -82,6 +92,11 @@ class Confirmed(Station):
     def greeted(self, message):
         self.awaited.clear()
         super().greeted(message)
+
+    def stands(self):
+        """All have confirmed that they stand, also those that a hand drives and that the registry does not have."""
+        hands = any(speed > 0 for speed, *_ in self.track.others.values())
+        return super().stands() and not hands and not self.is_stopping() and not self.bus.silent
 
     def ask_sensors(self):
         """A server that was started anew knows of no sensor."""
@@ -97,17 +112,22 @@ class Confirmed(Station):
 
     def tell_again(self):
         """Has the station told again what it has not confirmed for a while."""
-        late = asyncio.get_running_loop().time() - CONFIRMS
-        for part, (_, value) in [told for told in self.awaited.items() if told[1][0] < late]:
-            del self.awaited[part]
+        for part, value in self.awaited.take_late(asyncio.get_running_loop().time()):
             if part[0] == "cab" and value[0] < 0:
                 self.track.stops.add(part[1])
             self.track.forgets(part)
 
     async def tend(self):
+        now = looked = asyncio.get_running_loop().time()
         while True:
-            self.tell_again()
-            self.look()
+            looked, now = now, asyncio.get_running_loop().time()
+            if now > looked + SLEPT:
+                self.awaited.has_slept(now)
+            if self.ready.is_set():
+                self.bus.tell_silent(self.awaited.silent(now))
+                self.tell_again()
+                self.look()
+                self.look_whether_all_stand()
             await asyncio.sleep(TICK)
 
     def tasks(self):
@@ -116,11 +136,13 @@ class Confirmed(Station):
     async def leave(self):
         """Has all stand, and takes the power off, until the station has confirmed that."""
         self.bus.station_goes()
+        if self.IN_ORDER:
+            self.line.write(self.STOP_ALL)
         self.track.mark_all()
         hearing, now = asyncio.create_task(self.hear()), asyncio.get_running_loop().time
         ends = now() + LEAVING
         try:
-            while now() < ends and not hearing.done() and (self.tell_one() or self.awaited):
+            while now() < ends and not hearing.done() and (self.tell_one() or self.awaited.parts):
                 self.tell_again()
                 await asyncio.sleep(PACE)
         finally:

@@ -27,6 +27,10 @@ class Datagrams(asyncio.DatagramProtocol):
         """Nobody listens there, or the network is gone."""
         self.datagram_received(fault, None)
 
+    def number(self) -> int:
+        """Returns the number by which the system knows the socket."""
+        return self.transport.get_extra_info("socket").fileno()
+
     def write(self, data):
         if data and not self.transport.is_closing():
             self.transport.sendto(data)

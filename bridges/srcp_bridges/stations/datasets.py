@@ -5,6 +5,8 @@ import struct
 from collections.abc import Iterator
 
 SERIAL_NUMBER = 0x10
+GET_CODE = 0x18  # whether it drives by the network
+LOCKED = b"\1"
 LOGOFF = 0x30
 XBUS = 0x40
 SET_FLAGS = 0x50
@@ -14,7 +16,8 @@ GET_RMBUS = 0x81
 FORMATS = {14: 0, 28: 2, 126: 3}  # of a command, by the numbers of steps
 REPORTED = {0: 14, 2: 28, 4: 126}  # the numbers of steps of a report, by its format
 FLAGS = (0x10003).to_bytes(4, "little")  # the station tells of its power, turnouts, sensors, and all locomotives
-SHORT_CIRCUIT = 0x04  # a bit of its status
+STOPS_ALL = 0x01  # a bit of its status: it stops all
+SHORT_CIRCUIT = 0x04  # another
 PROGRAMMING = 0x20  # another: it programs a decoder
 NOT_DRIVING = 0x07 | PROGRAMMING  # all bits with which it does not drive: it stops all, power off, short circuit
 

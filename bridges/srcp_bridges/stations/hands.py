@@ -1,9 +1,10 @@
 """What a station reports of its own: its power, and what a hand throttle at it does, as rows of the registry."""
+import asyncio
 from functools import partial
 
 from srcp_bridges.driving import switch
 from srcp_bridges.program import say
-from srcp_bridges.rows import FORWARD, Refused
+from srcp_bridges.rows import FORWARD, STOP_ALL, Refused
 from srcp_bridges.stations.registry import POWER
 from srcp_bridges.stations.reports import Reports
 from srcp_bridges.stations.track import FUNCTIONS
@@ -12,6 +13,7 @@ from srcp_bridges.stop import send, stop_one
 # Why the power is off.
 OFF = "station says off"
 PROGRAMS = "programming"
+TOGETHER = 0.5  # seconds within which all make an emergency stop, if one button stopped them
 
 
 class Hands:
@@ -19,6 +21,7 @@ class Hands:
 
     `refused` has the locomotives that a hand drives and that the server does not make. `driven` has the speed, the
     direction and the time of what the station was told last of each locomotive; nothing, if a hand drives it since.
+    `forgotten` has those that the station has forgotten since.
     """
 
     def __init__(self, bus):
@@ -28,7 +31,9 @@ class Hands:
         self.mirror = bus.mirror
         self.reports = Reports()
         self.refused: set[int] = set()
+        self.stopped: dict[int, float] = {}  # when a hand had a locomotive make an emergency stop
         self.driven: dict[int, tuple] = {}
+        self.forgotten: set[int] = set()
         self.track.drive_on = self.locomotive
 
     def is_news(self, part, value, usual=None):
@@ -102,8 +107,18 @@ class Hands:
             self.orders.put(part, partial(self.start, command, *seen), partial(self.track.mark, part))
         elif drive.v and speed < 0:
             self.orders.put(part, partial(stop_one, self.mirror, self.mirror.ask, self.bus.number, address), stays)
+            if self.stops_all(address):
+                self.bus.tell_power(STOP_ALL)
         elif drive.v or way != self.mirror.way(self.bus.number, address):
             self.orders.command(part, f"{command} 0 {drive.v_max}", stays)
+
+    def stops_all(self, address: int) -> bool:
+        """Returns whether the stop of a locomotive is one of all: none drives any more, and several were stopped in one
+        moment. A DCC-EX station reports each by itself, and no button."""
+        now = asyncio.get_running_loop().time()
+        recent = {other: moment for other, moment in self.stopped.items() if moment > now - TOGETHER}
+        self.stopped = recent | {address: now}
+        return len(self.stopped) > 1 and not self.track.driving()
 
     async def start(self, command, stops, losses):
         """Has a locomotive drive, if it was not stopped and nothing was lost since a hand had it drive."""

@@ -1,16 +1,18 @@
 """After a loss nothing starts by itself: what rests, and until when."""
+from collections.abc import Callable
 from functools import partial
 
+from srcp_bridges.rows import NO_DRIVER, NO_STATION
 from srcp_bridges.stations.registry import POWER
 
 
 class Holds:
     """`held` has the parts of the track that rest until somebody commands them anew: their rows are set to rest.
 
-    `refused` has the rows that stayed as they were, since another session has the locomotive locked.
+    `refused` has the rows that stayed as they were, since another session has the locomotive locked, or of before a
+    STOP ALL. `halted` has the locomotives that are told an emergency stop for that: until a row that is newer.
     """
 
-    NO_STATION = "no station"
     AWAY = "server was away"
     RESET = "station was reset"
 
@@ -20,6 +22,9 @@ class Holds:
         self.orders = orders
         self.held: set[tuple] = set()
         self.refused: dict = {}
+        self.halted: set[int] = set()
+        self.changed: Callable[[tuple], None] = lambda part: None  # is told the part that rests in another way
+        self.stopped = 0.0  # the stamp of the last STOP ALL
         self.why = self.AWAY
         self.station = False  # the station is there
         self.lost = False  # the server was away for too long
@@ -34,12 +39,18 @@ class Holds:
     def take(self, part, row, listed):
         """Takes in a new row; `listed`: it came with a listing, so it may be of before a loss of the server."""
         if not moves(row):
-            self.held.discard(part)
-            self.clear_text(part, row)
+            self.free(part)
+            self.clear_text(part, row, listed)
+        elif listed and part != POWER and row.stamp <= self.stopped:
+            self.stop(part, row)
         elif not self.station or listed and (self.lost or self.mirror.anew):
             self.hold(part, row, self.AWAY)
         elif self.is_commanded(part, row):
-            self.held.discard(part)
+            self.free(part)
+
+    def free(self, part):
+        self.held.discard(part)
+        self.halted.discard(part[-1])
 
     def is_commanded(self, part, row):
         """Returns whether a row is a new command of who has the locomotive locked: one for functions alone is none."""
@@ -49,14 +60,41 @@ class Holds:
         self.refused[part] = row
         return row[1:4] != old[1:4] or row.functions == old.functions
 
+    def stop_all(self, stamp):
+        """Holds all that drives, until it is commanded anew: a row that is newer than that of the STOP ALL."""
+        self.losses += 1
+        self.stopped = stamp
+        for part, row in self.rows():
+            if part != POWER and moves(row):
+                self.stop(part, row)
+
+    def stop(self, part, row):
+        self.held.add(part)
+        self.halted.add(part[1])
+        self.refused[part] = row
+
+    def rest_all(self):
+        """Sets the rows to rest that nobody has since a STOP ALL."""
+        for part, row in self.rows() if self.mirror.here else ():
+            if part[-1] in self.halted and moves(row):
+                self.orders.put(part, partial(self.rest, part, row), partial(self.keep_held, part))
+
+    async def rest(self, part, row):
+        if part[1] in self.halted:  # nobody has commanded it anew meanwhile
+            await self.mirror.ask(self.at_rest(part, row))
+
+    def at_rest(self, part, row):
+        """Returns the command that has a locomotive stand in its direction."""
+        return f"SET {self.bus} GL {part[1]} {self.mirror.way(self.bus, part[1])} 0 {row.v_max}"
+
     def lose(self, why):
         """Holds all that is on or drives: something was lost."""
         self.losses += 1
         for part, row in self.rows():
             if moves(row):
                 self.hold(part, row, why)
-            elif part == POWER and not self.station and row.text != self.NO_STATION:
-                self.set_power(self.NO_STATION)
+            elif part == POWER and not self.station and row.text != NO_STATION:
+                self.set_power(NO_STATION)
 
     def hold(self, part, row, why):
         """Holds a part, and has its row say so. Of power the first reason stays, or that there is no station."""
@@ -67,15 +105,22 @@ class Holds:
         if not self.mirror.here:
             return  # it is ordered when the server is back
         if part == POWER:
-            self.set_power(self.why if self.station else self.NO_STATION)
+            self.set_power(self.why if self.station else NO_STATION)
         else:
-            rest = f"SET {self.bus} GL {part[1]} {self.mirror.way(self.bus, part[1])} 0 {row.v_max}"
-            self.orders.command(part, rest, partial(self.keep, part))
+            self.orders.command(part, self.at_rest(part, row), partial(self.keep_held, part))
+
+    def keep_held(self, part: tuple) -> None:
+        """The server refused to set a row to rest: as `keep`, unless its locomotive was commanded anew meanwhile."""
+        if part in self.held:
+            self.keep(part)
 
     def keep(self, part):
         """Holds a locomotive whose row may not be changed: until a new command of who has it locked."""
         self.held.add(part)
         self.refused[part] = self.mirror.rows.get((self.bus, "GL", part[1], "does"))
+        if part[1] in self.halted:
+            self.halted.discard(part[1])
+            self.changed(part)
 
     def set_power(self, why):
         self.orders.command(POWER, f"SET {self.bus} POWER OFF {why}".rstrip())
@@ -85,19 +130,20 @@ class Holds:
         self.station = True
         self.lose(self.RESET)
         for part, row in self.rows():
-            self.clear_text(part, row)
+            self.clear_text(part, row, True)
 
-    def clear_text(self, part, row):
-        """The row of power says no more that there is no station."""
-        if part == POWER and self.station and not row.on and row.text == self.NO_STATION:
+    def clear_text(self, part, row, listed):
+        """The row of power says no more that there is no station, or was no driver."""
+        if part == POWER and self.station and not row.on and row.text in (NO_STATION, NO_DRIVER if listed else None):
             self.set_power("")
 
     def station_goes(self):
         self.station = False
-        self.lose(self.NO_STATION)
+        self.lose(NO_STATION)
 
     def server_comes(self):
         """The server is there: after a loss all is held that it has, and will list, as on or driving."""
+        self.rest_all()
         if self.lost or self.mirror.anew:
             self.lose(self.AWAY)
 

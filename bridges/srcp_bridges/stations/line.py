@@ -1,5 +1,7 @@
 """A line of bytes to a command station: serial, or by TCP."""
 import asyncio
+import contextlib
+import errno
 import fcntl
 import os
 import stat
@@ -29,14 +31,16 @@ def network_place(name, fault, usual=None):
 
 
 def serial(name):
-    """Opens a serial line for this program alone: others are refused by the system, and ours by the lock."""
+    """Opens a serial line for this program alone: others are refused by the system, and ours by the lock. That goes as
+    this process ends, though the one that says its last words has the line too."""
     line = os.open(name, os.O_RDWR | os.O_NOCTTY | os.O_NONBLOCK)
     try:
-        fcntl.flock(line, fcntl.LOCK_EX | fcntl.LOCK_NB)
+        fcntl.lockf(line, fcntl.LOCK_EX | fcntl.LOCK_NB)
         fcntl.ioctl(line, termios.TIOCEXCL)
         tty.setraw(line)
         mode = termios.tcgetattr(line)
         mode[2] |= termios.CLOCAL  # no modem is asked whether it is there
+        mode[2] &= ~termios.HUPCL  # nor does the station begin anew as the line is closed and opened again
         mode[4] = mode[5] = termios.B115200
         termios.tcsetattr(line, termios.TCSAFLUSH, mode)
     except BlockingIOError:
@@ -44,6 +48,8 @@ def serial(name):
         raise CannotGoOn(f"{name}: another program has it") from None
     except (OSError, termios.error) as fault:
         os.close(line)
+        if fault.args[0] == errno.ENOTTY:
+            raise Wrong(f"--station {name}: not a serial line") from None
         raise OSError(f"{name}: {fault}") from None
     return line
 
@@ -70,6 +76,10 @@ class Line:
         transport, protocol = await loop.connect_write_pipe(asyncio.streams.FlowControlMixin, ends[1])
         return cls(reader, asyncio.StreamWriter(transport, protocol, None, loop), reading)
 
+    def number(self) -> int:
+        """Returns the number by which the system knows the line."""
+        return (self.writer.get_extra_info("socket") or self.writer.get_extra_info("pipe")).fileno()
+
     def write(self, data):
         self.writer.write(data)
         if self.writer.transport.get_write_buffer_size() > UNSENT:
@@ -88,6 +98,9 @@ class Line:
             raise ConnectionError("a message without an end") from None
 
     def close(self):
+        if (pipe := self.writer.get_extra_info("pipe")) and not pipe.closed:
+            with contextlib.suppress(OSError, termios.error):  # that process may not have closed it yet
+                fcntl.ioctl(pipe, termios.TIOCNXCL)
         self.reading.close()
         if not self.writer.is_closing():
             self.writer.transport.abort()

@@ -2,7 +2,7 @@
 import asyncio
 from collections import defaultdict, deque
 
-LATE = 5.0  # seconds within which an echo comes
+LATE = 10.0  # seconds within which an echo comes: after less silence the line is opened anew
 REPORTED = "power", "cab", "function"
 
 

@@ -8,16 +8,19 @@ from typing import Any
 from srcp_bridges.program import BUS, arguments, names, say
 from srcp_bridges.rows import Refused
 from srcp_bridges.state import SELF
+from srcp_bridges.stations.awaited import Ahead
 from srcp_bridges.stations.bus import Bus
 from srcp_bridges.stations.datagrams import Datagrams
 from srcp_bridges.stations.hands import Hands
 from srcp_bridges.stations.line import Line
 from srcp_bridges.stations.programming import Programming
+from srcp_bridges.stations.last_words import LastWords
 from srcp_bridges.stations.registry import POWER
+from srcp_bridges.stations.track import URGENT
 
 ASK = 1.0  # seconds between two questions to a silent station
 PACE = 0.002  # seconds between two commands
-AHEAD = 8  # commands that a station may have before it: then it is asked whether it has taken them
+AGAIN = 0.2  # seconds until a station is asked again whether it has read what it was told
 ANSWERS = 2.0  # seconds for which the first question may be answered again, if it was asked more than once
 UNANSWERED = 3  # questions to a station that is gone
 MOMENT = 1.0  # seconds until doctor.py can read what has changed
@@ -38,12 +41,14 @@ class Station:
     SENSORS = b""
     PROGRAMS_BESIDE = True  # as Programming has it
     REPEATS: float | None = None
+    ROOM, MOST, RESERVE = 48, 27, 16  # as Ahead has them: an Arduino Mega has 64 bytes for what comes in
+    TIMES = 5  # how often the last words are said, since some may be lost
 
     def __init__(self, asked):
         self.name = asked.station
         self.silence = asked.silence
         self.again = asked.again
-        self.bus = Bus(asked, names(asked.names), self.many_stop)
+        self.bus = Bus(asked, names(asked.names), self.stop_at_once)
         self.track = self.bus.track
         self.hands = Hands(self.bus)
         self.sensors: asyncio.Queue = asyncio.Queue(1000)
@@ -52,6 +57,9 @@ class Station:
         self.unanswered = 0
         self.questions = 0
         self.began = 0.0
+        self.heard = False  # since it was told to stop all
+        self.ahead = Ahead(self.ROOM, self.MOST, self.RESERVE)
+        self.last_words = LastWords(asked, self.TIMES)
         self.line: Line | Datagrams
         self.programming = Programming(self, self.PROGRAMS_BESIDE, self.REPEATS)
 
@@ -88,17 +96,28 @@ class Station:
         self.hands.reports.telling_all_to_stop()
         self.line.write(self.STOP_ALL)
 
-    def many_stop(self):
+    def stop_at_once(self) -> None:
         """Tells the station to stop all, before anything that waits: the answer to a question too."""
+        self.heard = False
         if self.ready.is_set():
             with contextlib.suppress(OSError):  # another task sees to that
                 self.say_stop_all()
-            self.track.all_stop()
+                self.line.write(self.ALIVE)
+
+    def stands(self) -> bool:
+        """Returns whether all stand, as far as the station says."""
+        return self.ready.is_set() and self.heard
+
+    def look_whether_all_stand(self) -> None:
+        """Answers a STOP ALL once all stand."""
+        if self.bus.stopping and self.stands():
+            self.bus.all_stood()
 
     def ask_sensors(self):
         self.line.write(self.SENSORS)
 
     def alive(self):
+        self.heard = True
         self.answered.set()
 
     def sensor(self, address, value):
@@ -112,35 +131,68 @@ class Station:
             message = await self.line.read(self.END)
             self.unanswered = 0
             self.take(message)
+            self.look_whether_all_stand()
             while self.sensors.full():
                 await asyncio.sleep(PACE)
 
     async def tell(self):
         """Asks the station who it is until it answers, and then tells it what differs."""
-        ahead = self.questions = 0
+        self.questions = 0
+        self.ahead.has_read()
         while not self.ready.is_set():
             self.questions += 1
             await self.ask(self.HELLO, self.ready)
         while True:
             self.track.changed.clear()
-            while self.tell_one():
+            while not self.ahead.fits(urgent=False) or self.tell_one():
                 await self.line.drain()
                 await asyncio.sleep(PACE)
-                if (ahead := ahead + 1) % AHEAD == 0:
-                    await self.ask(self.ALIVE, self.answered)
+                if not self.ahead.fits(urgent=False):
+                    await self.wait_until_read()
             await self.track.changed.wait()
+
+    async def wait_until_read(self) -> None:
+        """Waits until the station has read what it was told. What is urgent is told meanwhile, as far as that fits."""
+        now = asyncio.get_running_loop().time
+        ends = ask = now() + self.ANSWER
+        self.answered.clear()
+        while not self.answered.is_set() and now() < ends:
+            while self.track.waiting[URGENT] and self.ahead.fits(urgent=True) and self.tell_one():
+                pass
+            if now() >= ask or ask == ends:  # also if the question was lost
+                self.line.write(self.ALIVE)
+                ask = now() + AGAIN
+            await self.answer_or_change(ask - now())
+        self.ahead.has_read()
+
+    async def answer_or_change(self, seconds: float) -> None:
+        """Waits until the station answers, or what it is to be told has changed; a while at most."""
+        self.track.changed.clear()
+        waits = [asyncio.create_task(event.wait()) for event in (self.answered, self.track.changed)]
+        try:
+            await asyncio.wait(waits, timeout=max(0, seconds), return_when=asyncio.FIRST_COMPLETED)
+        finally:
+            for task in waits:
+                task.cancel()
 
     def tell_one(self):
         """Tells the station the most urgent of what differs; returns whether there was something."""
         if not (found := self.track.next()):
             return False
+        command = self.command(*found)
         self.telling(*found)
-        self.line.write(self.encode(*found))
+        self.line.write(command)
+        self.ahead.tell(len(command))
         self.track.tell(*found)
         (kind, *numbers), value = found
         if kind == "cab":
             self.hands.driven[numbers[0]] = *value, time.monotonic()  # which is that of all programs of this machine
+            self.hands.forgotten.discard(numbers[0])
         return True
+
+    def command(self, part: tuple, value: Any) -> bytes:
+        """Returns what the station is told of a part, and asked with it."""
+        return self.encode(part, value)
 
     def telling(self, part, value):
         """Notes what the station is told, for what it reports then."""
@@ -151,7 +203,8 @@ class Station:
         answered.clear()
         self.line.write(question)
         with contextlib.suppress(TimeoutError):
-            await asyncio.wait_for(answered.wait(), self.ANSWER)
+            async with asyncio.timeout(self.ANSWER):  # wait_for of Python 3.11 loses a cancellation
+                await answered.wait()
 
     async def beat(self):
         """Asks for something small now and then: one that answers nothing is gone."""
@@ -165,6 +218,7 @@ class Station:
     async def serve(self):
         """Serves the station over one opening of its line; has all stand, and takes the power off, at the end."""
         self.line, self.unanswered = await self.connect(), 0
+        self.last_words.leave(self.line.number(), self.STOP_ALL + self.encode(POWER, 0))
         say(f"station: {self.name} is open")
         tasks = [asyncio.create_task(task) for task in self.tasks()]
         try:
@@ -176,16 +230,18 @@ class Station:
                 await self.leave()
             self.ready.clear()
             self.programming.lose()
+            self.last_words.take_back()
             self.line.close()
 
     def tasks(self) -> list[Coroutine]:
         """Returns what is done over one opening of the line."""
-        return [self.hear(), self.tell(), self.beat()]
+        return [self.hear(), self.tell(), self.beat(), self.last_words.run()]
 
     async def leave(self):
         """Has all stand, and takes the power off."""
         self.line.write(self.STOP_ALL + self.encode(POWER, 0))
-        await asyncio.wait_for(self.line.drain(), ASK)
+        async with asyncio.timeout(ASK):
+            await self.line.drain()
 
     async def keep_line(self):
         while True:
@@ -193,6 +249,8 @@ class Station:
                 await self.serve()
             except OSError as fault:
                 say(f"station: {fault}")
+                if (task := asyncio.current_task()) and task.cancelling():
+                    raise asyncio.CancelledError from None  # gather told of the fault in place of the program's end
             finally:
                 self.bus.station_goes()
             await asyncio.sleep(self.again)
@@ -223,7 +281,7 @@ class Station:
         while True:
             SELF.tell_station(bus=self.bus.number, name=self.name, here=self.ready.is_set(), slots=self.track.slots,
                               taken=len(self.track.known), left_out=self.bus.left_out(), told=dict(self.hands.driven),
-                              door=self.programming.path)
+                              forgotten=sorted(self.hands.forgotten), door=self.programming.path)
             await asyncio.sleep(MOMENT)
 
     async def run(self):
@@ -239,7 +297,8 @@ class Station:
                     task.cancel()
             await asyncio.wait(tasks)
             with contextlib.suppress(OSError):
-                await asyncio.wait_for(self.bus.orders.carry_out(), ASK)
+                async with asyncio.timeout(ASK):
+                    await self.bus.orders.carry_out()
 
 
 def words_of_driver(about):
@@ -248,6 +307,8 @@ def words_of_driver(about):
     words.add_argument("--bus", type=BUS, default=1, help="the bus that is put on the track (%(default)s)")
     words.add_argument("--patience", type=float, default=3.0, metavar="SECONDS", help="without a server: all stand")
     words.add_argument("--silence", type=float, default=9.0, metavar="SECONDS", help="of a station: opened anew")
+    words.add_argument("--asleep", type=float, default=5.0, metavar="SECONDS",
+                       help="that this program sleeps until all stand (%(default)s)")
     words.add_argument("--turnout-pace", type=float, default=3.0, metavar="NUMBER",
                        help="of turnouts that are thrown in a second, at most (%(default)s)")
     words.add_argument("--names", metavar="FILE", help="names of devices, for what is told of them")

@@ -13,8 +13,6 @@ from srcp_bridges.stations.registry import POWER
 URGENT, STOPPING, DRIVING, LATER, TURNOUTS = range(5)
 TOPS = 126,  # the numbers of steps in which a station is told speeds
 FUNCTIONS = 29  # of a locomotive, at most
-MANY = 3  # more emergency stops at one moment, and the station is told first to stop all
-HALTED = 0.3  # seconds after that, until what was not to stop is told its speed again
 NOBODY = None, Drive(0, FORWARD, 0, 0, ())
 
 
@@ -42,7 +40,7 @@ class Track:
         self.slots = None
         self.changed = asyncio.Event()
         self.tops: tuple[int, ...] = TOPS
-        self.at_first: tuple | None = None  # what a locomotive of which it was told nothing does, if it may drive
+        self.at_first: tuple | None = None  # of a station that keeps speeds: what one does of which it was told nothing
         self.awaits: Callable[[tuple], bool] = lambda part: False  # whether a part is told nothing else meanwhile
 
     # ---- what is wanted: how urgent a part is, and its value, or None if any will do
@@ -59,7 +57,7 @@ class Track:
         """A locomotive's speed, -1 for an emergency stop, and direction. One that has not driven yet is not told."""
         made, drive = self.locomotive(address)
         told, way = self.told.get(("cab", address), made and self.at_first), self.mirror.way(self.bus, address)
-        if address in self.stops or drive.mode == EMERGENCY_STOP:
+        if address in self.stops or drive.mode == EMERGENCY_STOP or address in self.holds.halted:
             return URGENT, told and (-1, way)
         if not drive.v or ("cab", address) in self.holds.held:
             return STOPPING, told and (0, way)
@@ -135,12 +133,17 @@ class Track:
             self.mark(("turnout", address))
 
     def begin_anew(self):
-        """The station has forgotten all. How turnouts lie has not changed."""
+        """The station has forgotten all. How turnouts lie has not changed. One that keeps speeds may still have what is
+        gone from the registry drive: that stands."""
+        driven = [part for part in self.told if part[0] == "cab"] if self.at_first else []
         self.told = {part: value for part, value in self.told.items() if part[0] == "turnout"}
+        self.told |= dict.fromkeys(driven, self.at_first)
         self.known.clear()
         self.others.clear()
         self.stops.clear()
         self.mark_all()
+        for part in driven:
+            self.mark(part)
 
     def next(self):
         """Returns the most urgent part that is to be told at this moment, and its value, or None."""
@@ -149,8 +152,11 @@ class Track:
             while now >= begin and (part := next((part for part in waiting if not self.awaits(part)), None)):
                 if self.has_slot(part):
                     return part, waiting.pop(part)
-                if idle := next((address for address in self.known if not self.is_busy(address)), None):
-                    return ("forget", idle), 1
+                idle = [address for address in self.known if not self.is_busy(address)]
+                if ready := [address for address in idle if not self.awaits(("forget", address))]:
+                    return ("forget", ready[0]), 1
+                if idle:
+                    break  # its slot is free once it has confirmed that it rests
                 del waiting[part]
                 self.full(part[1])
         return None
@@ -199,16 +205,6 @@ class Track:
         loop = asyncio.get_running_loop()
         self.not_before[urgency] = loop.time() + seconds
         loop.call_later(seconds + 0.001, self.changed.set)
-
-    def many_stop(self):
-        """Returns whether so many make an emergency stop that the station is to stop all first."""
-        return sum(self.speed(address) > 0 for address in self.stops) > MANY
-
-    def all_stop(self):
-        """The station was told to stop all: what stops is told so too, and what does not its speed, after a moment."""
-        self.pause(DRIVING, HALTED)
-        for part in [part for part in self.told if part[0] == "cab" and self.told[part][0] > 0]:
-            self.forgets(part)
 
     def forgets(self, part):
         """The station may do something else than it was told of a part: it is told again."""

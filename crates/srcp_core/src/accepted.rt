@@ -24,8 +24,8 @@ impl Model for Accepted {
 
     ghost view = { λ a. a.moment };
 
-    ghost invariant = { λ a. (a.line ≡ reply_line a.moment AcceptedReply)
-        × (length a.line ≤ LONGEST_SHORT_REPLY) };
+    ghost invariant = { λ a. (a.line.items ≡ reply_line a.moment AcceptedReply)
+        × (length a.line.items ≤ LONGEST_SHORT_REPLY) };
 }
 
 impl Accepted {

@@ -82,12 +82,12 @@ impl Model for Connection {
           mode = c.mode;
           session = c.session;
           ended = c.ended;
-          unsent = drop (length (c.line ++ c.reply.items) - c.left) (c.line ++ c.reply.items);
+          unsent = drop (length (c.line.items ++ c.reply.items) - c.left) (c.line.items ++ c.reply.items);
           panel = c.panel;
         } };
 
-    ghost invariant = { λ c. ((c.line ≡ []) ⊎ (c.reply.items ≡ []))
-        × (c.left ≤ length (c.line ++ c.reply.items)) × (length (c.line ++ c.reply.items) ≤ MOST_UNSENT)
+    ghost invariant = { λ c. ((c.line.items ≡ []) ⊎ (c.reply.items ≡ []))
+        × (c.left ≤ length (c.line.items ++ c.reply.items)) × (length (c.line.items ++ c.reply.items) ≤ MOST_UNSENT)
         × (MOST_UNSENT ≤ vec_capacity c.reply) × AllByRecursion IsWellFormed (queue_of c.panel) };
 }
 
@@ -209,7 +209,7 @@ impl Connection {
         };
         if let Told::Overrun = feed.tell_line(change) {
             self.panel = Panel::Overran;
-            self.line.clear();
+            self.line = InfoLine::new();
             self.reply.clear();
             self.left = 0;
         }
@@ -366,16 +366,16 @@ fn give<R: Rows>(feed: &mut InfoFeed, rows: &R, line: &mut InfoLine) -> bool
     requires well_formed { AllByRecursion IsWellFormed feed.old.queue }
     requires shown { AllByRecursion IsWellFormedShown (shown_rows (R.state rows.now)) }
     ensures feed { feed.new ≡ after_next (shown_rows (R.state rows.now)) feed.old }
-    ensures line { line.new ≡ line_of (next_of (shown_rows (R.state rows.now)) feed.old) }
-    ensures none { result ≡ false → line.new ≡ [] }
-    ensures most { length line.new ≤ LONGEST_LINE }
+    ensures line { line.new.items ≡ line_of (next_of (shown_rows (R.state rows.now)) feed.old) }
+    ensures none { result ≡ false → line.new.items ≡ [] }
+    ensures most { length line.new.items ≤ LONGEST_LINE }
 {
     if let Some(first) = feed.first() {
         first.put_into(line);
         feed.drop_first();
         return true;
     }
-    line.clear();
+    *line = InfoLine::new();
     let Some(row) = feed.list(rows) else {
         return false;
     };
@@ -385,16 +385,16 @@ fn give<R: Rows>(feed: &mut InfoFeed, rows: &R, line: &mut InfoLine) -> bool
 
 /// Moves the unsent bytes, from `start` on, to the beginning of the reply buffer.
 fn compact(line: &mut InfoLine, reply: &mut Vec<u8>, start: usize)
-    requires one { (line.old ≡ []) ⊎ (reply.old.items ≡ []) }
-    requires within { start ≤ length (line.old ++ reply.old.items) }
+    requires one { (line.old.items ≡ []) ⊎ (reply.old.items ≡ []) }
+    requires within { start ≤ length (line.old.items ++ reply.old.items) }
     requires capacity { MOST_UNSENT ≤ vec_capacity reply.old }
-    ensures line { line.new ≡ [] }
-    ensures items { reply.new.items ≡ drop start (line.old ++ reply.old.items) }
+    ensures line { line.new.items ≡ [] }
+    ensures items { reply.new.items ≡ drop start (line.old.items ++ reply.old.items) }
     ensures capacity { MOST_UNSENT ≤ vec_capacity reply.new }
 {
     if !line.is_empty() {
         reply.extend_from_slice(&line.as_slice()[start..]).unwrap();
-        line.clear();
+        *line = InfoLine::new();
         return;
     }
     if start == 0 {

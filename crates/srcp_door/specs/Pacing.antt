@@ -1,6 +1,6 @@
 -- How much lines weigh, and what is let through.
-use Rattle.std.specs.Prelude.{◌≡◌, ◌≢◌, ℕ, ◌+◌, ◌-◌, ◌<◌, ◌≤◌, ◌==◌, Bool, ◌&&◌, cond}
-use Rattle.std.specs.Prelude.{false, nat_le, nat_lt, Option, ⊤, List, [], ◌∷◌, ◌++◌, length, take, fold, count_by}
+use Rattle.std.specs.Prelude.{◌≡◌, ◌≢◌, ℕ, ◌+◌, ◌-◌, ◌<◌, ◌≤◌, ◌==◌, Bool, ◌&&◌, ◌||◌, cond}
+use Rattle.std.specs.Prelude.{true, nat_le, nat_lt, Option, List, [], ◌∷◌, ◌++◌, length, take, fold, count_by}
 use Rattle.std.specs.Option.{unwrap_or}
 use Rattle.srcp_info.specs.Limits.{most_waiting}
 use Rattle.srcp_grammar.specs.Weight.{most_changes, weight}
@@ -95,15 +95,21 @@ abbrev pub pace_of : (slack : Option ℕ) (tick : Bool) → Pace
 pace_of slack tick =
     let left = unwrap_or slack most_waiting - reserve in cond (tick && nat_lt left most_changes) OneLine (Paced left)
 
--- the prefix of a peer's piece that may go in a turn; a peer that had its share gets no line that weighs something
-abbrev pub Allows : Pace → Share → (piece : List ℕ) (count : ℕ) → Type 0
-Allows (Paced left) share piece count = IsShare share.line left share.rest piece count
-Allows OneLine share piece count = IsOneLine share.line share.rest piece count
+-- not every line may go
+abbrev pub is_short_pace : Pace → Bool
+is_short_pace (Paced left) = nat_lt left most_changes
+is_short_pace OneLine = true
 
--- a line of its share is kept back of a peer of whose piece that is handed out, since the turn's lines weigh too much
-abbrev pub keeps_back : Pace → Share → (piece handed : List ℕ) → Bool
-keeps_back (Paced left) share piece handed = nat_lt (lines handed) (lines (take share.rest piece))
-keeps_back OneLine share piece handed = false
+-- how many bytes of a peer's piece may go, if their lines weigh something: what is left of its share, or the whole
+-- piece while not every line may go
+abbrev pub rest_at : Pace → Share → (piece : List ℕ) → ℕ
+rest_at pace share piece = cond (is_short_pace pace) (length piece) share.rest
+
+-- the prefix of a peer's piece that may go in a turn; while every line may go, a peer that had its share gets no line
+-- that weighs something
+abbrev pub Allows : Pace → Share → (piece : List ℕ) (count : ℕ) → Type 0
+Allows (Paced left) share piece count = IsShare share.line left (rest_at (Paced left) share piece) piece count
+Allows OneLine share piece count = IsOneLine share.line (rest_at OneLine share piece) piece count
 
 -- lines that weigh so much may be let through
 abbrev pub fits : Pace → (weight : ℕ) → Bool
@@ -115,15 +121,10 @@ abbrev pub spent : Pace → (weight : ℕ) → Pace
 spent (Paced left) weight = Paced (left - weight)
 spent OneLine weight = cond (weight == 0) OneLine (Paced 0)
 
--- a peer's share after bytes of it were handed out: if a line that weighs something ended in them, the peer had its
--- share, or keeps what is left of that if a line of it was kept back
-abbrev pub share_after : Share → (handed : List ℕ) → (kept : Bool) → Share
-share_after share handed kept = record {
+-- a peer's share after bytes of it were handed out at a pace: they are taken from it if every line might go, and a line
+-- that weighs something ended in them
+abbrev pub share_after : Pace → Share → (handed : List ℕ) → Share
+share_after pace share handed = record {
   line = line_after share.line handed;
-  rest = cond (weight_of share.line handed == 0) share.rest (cond kept (share.rest - length handed) 0);
+  rest = cond (is_short_pace pace || weight_of share.line handed == 0) share.rest (share.rest - length handed);
 }
-
--- less may be let through than any line can weigh
-abbrev pub IsShort : Pace → Type 0
-IsShort (Paced left) = left < most_changes
-IsShort OneLine = ⊤

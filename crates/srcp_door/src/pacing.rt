@@ -1,10 +1,9 @@
 //! The lines that are let through in a turn.
 
-ghost use Rattle.std.specs.Prelude.{◌≡◌, ◌<◌, ◌≤◌, ◌+◌, ◌↔◌, ◌⊎◌, ◌==◌, ◌&&◌, false, true, not, cond, IsTrue, length};
-ghost use Rattle.std.specs.Prelude.{nat_lt, take};
-ghost use Rattle.srcp_door.specs.Pacing.{Allows, IsFirstWeight, IsLongest, IsShare, IsShort, fits, keeps_back};
-ghost use Rattle.srcp_door.specs.Pacing.{line_after, line_weight};
-ghost use Rattle.srcp_door.specs.Pacing.{lines, pace_of, share_after, spent, weight_of};
+ghost use Rattle.std.specs.Prelude.{◌≡◌, ◌<◌, ◌≤◌, ◌+◌, ◌==◌, ◌&&◌, false, true, not, cond, length, nat_lt, take};
+ghost use Rattle.srcp_door.specs.Pacing.{Allows, IsFirstWeight, IsLongest, IsShare, fits, is_short_pace};
+ghost use Rattle.srcp_door.specs.Pacing.{line_after, line_weight, lines, pace_of, rest_at, share_after, spent};
+ghost use Rattle.srcp_door.specs.Pacing.{weight_of};
 
 use memchr::memchr;
 use srcp_grammar::{MOST_CHANGES, weight};
@@ -50,7 +49,8 @@ impl LineBoundary {
     }
 }
 
-/// Holds a peer's share of the lines.
+/// Holds a peer's share of the lines. The share counts while every line may go. While not every line may go, the peers
+/// take turns instead: a peer whose turn it is may have all of the peer's piece, and no share is used.
 ///
 /// ```
 /// let mut share = Share {
@@ -63,8 +63,8 @@ impl LineBoundary {
 pub struct Share {
     /// Whether the bytes that were handed out end at the boundary of a line.
     pub line: LineBoundary,
-    /// How many bytes of the peer's piece may still go, if their lines weigh something; 0 for a peer that had its
-    /// share.
+    /// How many bytes of the share are left; 0 for a peer that had its share. Lines that weigh nothing take none, and
+    /// no line does while not every line may go.
     pub rest: usize,
 }
 
@@ -90,8 +90,6 @@ pub struct Allowed {
     pub count: usize,
     /// The weight of the lines that end in these bytes.
     pub weight: usize,
-    /// True if a line of the peer's share is kept back.
-    pub starved: bool,
 }
 
 impl Pace {
@@ -106,6 +104,29 @@ impl Pace {
             Pace::OneLine
         } else {
             Pace::Paced { left }
+        }
+    }
+
+    /// Returns whether not every line may go: a line can weigh more than what may be let through, or the clock lets a
+    /// single line through.
+    pub fn is_short(self) -> bool
+        ensures { result ≡ is_short_pace self }
+    {
+        match self {
+            Pace::Paced { left } => left < MOST_CHANGES,
+            Pace::OneLine => true,
+        }
+    }
+
+    /// Returns how many bytes of a piece may go, if their lines weigh something: the rest of the share, or all of the
+    /// piece while not every line may go.
+    fn rest(self, share: &Share, piece: &[u8]) -> usize
+        ensures { result ≡ rest_at self share.now piece.now }
+    {
+        if self.is_short() {
+            piece.len()
+        } else {
+            share.rest
         }
     }
 
@@ -124,39 +145,29 @@ impl Pace {
 
     /// Returns how many bytes of a peer's piece may be handed out. A piece in which no line ends goes out whole. Of any
     /// other piece whole lines go, as many as the pace and the peer's share let through. A peer that had its share gets
-    /// no line that weighs something. A peer whose share the pace cuts keeps the rest of the share. If the clock lets a
-    /// line through, that line is the whole share.
+    /// no line that weighs something while every line may go.
     pub fn allow(&mut self, share: &mut Share, piece: &[u8]) -> Allowed
         ensures allowed { Allows self.old share.old piece.now result.count }
         ensures within { result.count ≤ length piece.now }
-        ensures share { share.new ≡ share_after share.old (take result.count piece.now) result.starved }
+        ensures share { share.new ≡ share_after self.old share.old (take result.count piece.now) }
         ensures pace { self.new ≡ spent self.old (weight_of share.old.line (take result.count piece.now)) }
         ensures fits { fits self.old (weight_of share.old.line (take result.count piece.now)) ≡ true }
-        ensures starved { result.starved ≡ keeps_back self.old share.old piece.now (take result.count piece.now) }
-        ensures fair { IsTrue result.starved → IsShort self.new }
         ensures weight { result.weight ≡ weight_of share.old.line (take result.count piece.now) }
     {
-        let own = &piece[..share.rest.min(piece.len())];
-        let (most, paced) = match *self {
-            Pace::Paced { left } => (left, true),
-            Pace::OneLine => (first_weight(own, share.line), false),
+        let takes_turns = self.is_short();
+        let rest = self.rest(share, piece);
+        let own = &piece[..rest.min(piece.len())];
+        let most = match *self {
+            Pace::Paced { left } => left,
+            Pace::OneLine => first_weight(own, share.line),
         };
-        let granted = grant(piece, share.line, share.rest, most);
-        let starved = paced && granted.more;
-        *self = self.after(granted.weight);
-        share.line = share.line.after(&piece[..granted.count]);
-        if granted.weight > 0 {
-            share.rest = if starved {
-                share.rest.saturating_sub(granted.count)
-            } else {
-                0
-            };
+        let allowed = grant(piece, share.line, rest, most);
+        *self = self.after(allowed.weight);
+        share.line = share.line.after(&piece[..allowed.count]);
+        if !takes_turns && allowed.weight > 0 {
+            share.rest = share.rest.saturating_sub(allowed.count);
         }
-        Allowed {
-            count: granted.count,
-            weight: granted.weight,
-            starved,
-        }
+        allowed
     }
 }
 
@@ -175,29 +186,15 @@ struct WeighedPrefix {
     prefix: Prefix,
     // The weight of the lines that end in the prefix.
     weight: usize,
-    // True if a line ends in the rest of the piece, and the weight of the next such line.
-    more: bool,
+    // The weight of the next line that ends in the piece, or 0.
     next: usize,
 }
 
-/// Says which part of a peer's piece goes.
-#[derive(Clone, Copy)]
-struct Granted {
-    // The number of bytes.
-    count: usize,
-    // The weight of the lines that end in these bytes.
-    weight: usize,
-    // True if a line of the peer's share is kept back.
-    more: bool,
-}
-
 /// Returns the prefix of a piece that goes, if lines may weigh `most`. The peer's share is the first `rest` bytes.
-fn grant(piece: &[u8], line: LineBoundary, rest: usize, most: usize) -> Granted
+fn grant(piece: &[u8], line: LineBoundary, rest: usize, most: usize) -> Allowed
     ensures share { IsShare line most rest piece.now result.count }
     ensures weight { result.weight ≡ weight_of line (take result.count piece.now) }
-    ensures more { result.more ≡ nat_lt (lines (take result.count piece.now)) (lines (take rest piece.now)) }
     ensures few { result.weight ≤ most }
-    ensures light { IsTrue result.more → most < result.weight + MOST_CHANGES }
 {
     let own = longest_prefix(&piece[..rest.min(piece.len())], line, most);
     let all = if rest < piece.len() {
@@ -205,10 +202,9 @@ fn grant(piece: &[u8], line: LineBoundary, rest: usize, most: usize) -> Granted
     } else {
         own
     };
-    Granted {
+    Allowed {
         count: all.prefix.count,
         weight: all.weight,
-        more: own.more,
     }
 }
 
@@ -216,10 +212,7 @@ fn grant(piece: &[u8], line: LineBoundary, rest: usize, most: usize) -> Granted
 /// the whole piece. Else the prefix is whole lines.
 fn longest_prefix(piece: &[u8], line: LineBoundary, most: usize) -> WeighedPrefix
     ensures longest { IsLongest line most piece.now result.prefix.count }
-    ensures lines { result.prefix.lines ≡ lines (take result.prefix.count piece.now) }
     ensures weight { result.weight ≡ weight_of line (take result.prefix.count piece.now) }
-    ensures more { result.more ≡ not (result.prefix.lines == lines piece.now) }
-    ensures light { IsTrue result.more → most < result.weight + MOST_CHANGES }
     ensures next { most ≡ 0 → IsFirstWeight line piece.now result.next }
     ensures small { result.next ≤ MOST_CHANGES }
 {
@@ -233,7 +226,6 @@ fn longest_prefix(piece: &[u8], line: LineBoundary, most: usize) -> WeighedPrefi
             return WeighedPrefix {
                 prefix,
                 weight,
-                more: true,
                 next,
             };
         }
@@ -250,7 +242,6 @@ fn longest_prefix(piece: &[u8], line: LineBoundary, most: usize) -> WeighedPrefi
     WeighedPrefix {
         prefix,
         weight,
-        more: false,
         next: 0,
     }
 }

@@ -1,10 +1,11 @@
 //! A change with its line.
 
-ghost use Rattle.std.specs.Prelude.{◌≡◌, ◌≤◌, length};
+ghost use Rattle.std.specs.Prelude.{◌≡◌, ◌≤◌, take};
+ghost use Rattle.arrayvec.specs.ArrayVec.{array_vec_len};
 ghost use Rattle.srcp_info.specs.Line.{line};
 ghost use Rattle.srcp_info.specs.WellFormed.{IsWellFormed};
 
-use srcp_info::{Change, InfoLine, LONGEST_LINE, read_change, write_change};
+use srcp_info::{Change, InfoLine, LINE_CAPACITY, LONGEST_LINE, read_change, write_change};
 use std::marker::Model;
 
 /// Lends a change, and holds the change as it waits: as its line if written. All panels then share the line. Contracts
@@ -41,10 +42,12 @@ impl<'a> ChangeLine<'a> {
     {
         let mut line = InfoLine::new();
         write_change(change, &mut line);
+        let bytes = slot_of(&line);
+        let len = line.len();
         ChangeLine {
             change,
             waiting: Waiting {
-                held: Held::Line(line),
+                held: Held::Line { bytes, len },
             },
         }
     }
@@ -85,7 +88,12 @@ pub struct Waiting {
 /// Holds a change: its line if written, else the change itself.
 #[derive(Drop)]
 enum Held {
-    Line(InfoLine),
+    // The first `len` bytes are the line. A slot of the queue is copied for each panel, and a plain array is copied by
+    // a few moves, where an `ArrayVec` is copied byte by byte.
+    Line {
+        bytes: [u8; LINE_CAPACITY],
+        len: usize,
+    },
     Change(Change),
 }
 
@@ -107,7 +115,10 @@ impl Waiting {
         ensures { result ≡ self.now }
     {
         let held = match &self.held {
-            Held::Line(line) => Held::Line(line.copied()),
+            Held::Line { bytes, len } => Held::Line {
+                bytes: *bytes,
+                len: *len,
+            },
             Held::Change(change) => Held::Change(*change),
         };
         Waiting { held }
@@ -118,10 +129,13 @@ impl Waiting {
         ensures { result ≡ self.now }
     {
         match &self.held {
-            Held::Line(line) => match read_change(&line.as_slice()[..line.len() - 1]) {
-                Some(change) => change,
-                None => unreachable!(),
-            },
+            Held::Line { bytes, len } => {
+                let line = &bytes[..*len];
+                match read_change(&line[..line.len() - 1]) {
+                    Some(change) => change,
+                    None => unreachable!(),
+                }
+            }
             Held::Change(change) => *change,
         }
     }
@@ -129,15 +143,27 @@ impl Waiting {
     /// Puts the change's line into `to`: a copy, or written there if no line was written.
     pub fn put_into(&self, to: &mut InfoLine)
         requires { IsWellFormed self.now }
-        ensures line { to.new ≡ line self.now }
-        ensures most { length to.new ≤ LONGEST_LINE }
+        ensures line { to.new.items ≡ line self.now }
+        ensures most { array_vec_len to.new ≤ LONGEST_LINE }
     {
         match &self.held {
-            Held::Line(line) => to.copy_from(line),
+            Held::Line { bytes, len } => {
+                *to = InfoLine::from(*bytes);
+                to.truncate(*len);
+            }
             Held::Change(change) => {
-                to.clear();
+                *to = InfoLine::new();
                 write_change(change, to);
             }
         }
     }
+}
+
+/// Returns the bytes of a line, with others behind them.
+fn slot_of(line: &InfoLine) -> [u8; LINE_CAPACITY]
+    ensures { take (array_vec_len line.now) result ≡ line.now.items }
+{
+    let mut slot = [0; LINE_CAPACITY];
+    slot[..line.len()].copy_from_slice(line);
+    slot
 }

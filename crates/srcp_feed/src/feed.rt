@@ -96,11 +96,11 @@ impl InfoFeed {
         if !self.has_passed(change.change()) {
             return Told::Skipped;
         }
-        if self.waiting.is_full() {
-            return Told::Overrun;
+        if self.waiting.push(change.waiting()) {
+            Told::Queued
+        } else {
+            Told::Overrun
         }
-        self.waiting.push(change.waiting());
-        Told::Queued
     }
 
     /// Returns whether the listing has passed the row of a change. A listing that is done has passed all rows, whatever

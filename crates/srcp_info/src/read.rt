@@ -287,7 +287,7 @@ pub fn read_change(line: &[u8]) -> Option<Change>
     }
     let mut written = InfoLine::new();
     write_change(&change, &mut written);
-    written.drop_last();
+    written.pop();
     if written.as_slice() == line {
         Some(change)
     } else {

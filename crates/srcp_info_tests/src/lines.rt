@@ -49,7 +49,7 @@ fn go_round(rt: &impl Abort, lines: &[(&[u8], Change)]) {
         if let Some(read) = read {
             let mut written = LineBuf::new();
             write_change(&read, &mut written);
-            written.drop_last();
+            written.pop();
             assert_eq!(rt; written.as_slice(), *line);
         }
     }

@@ -2,12 +2,13 @@
 
 ghost use Rattle.std.specs.Prelude.{◌≡◌};
 ghost use Rattle.srcp_interlock.specs.Hearing.{is_go, is_refusal, coded_event, reply_event, port_event, place_of};
-ghost use Rattle.srcp_interlock.specs.Hearing.{row_event, change_event, Hears};
+ghost use Rattle.srcp_interlock.specs.Hearing.{occupancy_of, row_event, change_event, Hears, named_sensor};
+ghost use Rattle.srcp_interlock.specs.Hearing.{unknown_event, words_event};
 ghost use Rattle.srcp_text.specs.Words.{words_of};
 
-use srcp_info::{Change, Key, Value, read_change};
-use srcp_routes::{Device, Event};
-use srcp_text::{Words, words};
+use srcp_info::{Change, GREATEST_BUS, Key, Value, read_change};
+use srcp_routes::{Device, Event, Occupancy};
+use srcp_text::{Words, read_number, words};
 
 /// Returns whether these words of a reply, behind the code, say that a command session begins.
 fn is_go(mut words: Words<'_>) -> bool
@@ -60,6 +61,51 @@ fn reply_event(line: &[u8]) -> Option<Event>
     coded_event(code, words)
 }
 
+/// Returns the sensor that the words of a bus and of an address name, if any.
+fn named_sensor(bus: &[u8], address: &[u8]) -> Option<Device>
+    ensures { result ≡ named_sensor bus.now address.now }
+{
+    let bus = read_number(bus, u32::MAX)?;
+    let address = read_number(address, u32::MAX)?;
+    if bus > u32::from(GREATEST_BUS) {
+        return None;
+    }
+    Some(Device {
+        bus: bus as u8,
+        address,
+    })
+}
+
+/// Returns the event of a line that tells that a sensor is not known any more, if the line does. No panel is sent
+/// such a line, since no sensor goes: who hands lines to the box may write one.
+fn unknown_event(line: &[u8]) -> Option<Event>
+    ensures { result ≡ unknown_event (words_of line.now) }
+{
+    let mut words = words(line);
+    let _stamp = words.next()?;
+    let code = words.next()?;
+    let _info = words.next()?;
+    let bus = words.next()?;
+    let group = words.next()?;
+    let address = words.next()?;
+    if words.next().is_some() || code != b"102".as_slice() || group != b"FB".as_slice() {
+        return None;
+    }
+    let sensor = named_sensor(bus, address)?;
+    Some(Event::Told(sensor, Occupancy::Unknown))
+}
+
+/// Returns the event of a line by its words, if any: that of a reply, or of a sensor that is not known any more.
+fn words_event(line: &[u8]) -> Option<Event>
+    ensures { result ≡ words_event (words_of line.now) }
+{
+    let replied = reply_event(line);
+    if replied.is_some() {
+        return replied;
+    }
+    unknown_event(line)
+}
+
 /// Returns what a port with the value 1 says of the route at a place, if anything. `row` is the port's number plus 1.
 fn port_event(row: u8, place: usize) -> Option<Event>
     ensures { result ≡ port_event row place }
@@ -78,6 +124,17 @@ fn place_of(numbers: &[u32], number: u32) -> Option<usize>
     numbers.iter().position(|other| *other == number)
 }
 
+/// Returns what a sensor is known to be that is on or off.
+fn occupancy_of(on: bool) -> Occupancy
+    ensures { result ≡ occupancy_of on }
+{
+    if on {
+        Occupancy::Occupied
+    } else {
+        Occupancy::Free
+    }
+}
+
 /// Returns the event of a row with this key and value, if any.
 fn row_event(own: u8, numbers: &[u32], key: Key, value: Value) -> Option<Event>
     ensures { result ≡ row_event own numbers.now key value }
@@ -92,7 +149,7 @@ fn row_event(own: u8, numbers: &[u32], key: Key, value: Value) -> Option<Event>
                 bus: key.bus,
                 address: key.address,
             };
-            Some(Event::Told(sensor, on))
+            Some(Event::Told(sensor, occupancy_of(on)))
         }
         _ => None,
     }
@@ -108,13 +165,13 @@ fn change_event(own: u8, numbers: &[u32], change: Change) -> Option<Event>
     }
 }
 
-/// Returns the event of a line, as a reply or as a change, if any.
+/// Returns the event of a line, by its words or as a change, if any.
 pub(crate) fn hear(own: u8, numbers: &[u32], line: &[u8]) -> Option<Event>
     ensures { Hears own numbers.now line.now result }
 {
-    let replied = reply_event(line);
-    if replied.is_some() {
-        return replied;
+    let told = words_event(line);
+    if told.is_some() {
+        return told;
     }
     match read_change(line) {
         Some(change) => change_event(own, numbers, change),

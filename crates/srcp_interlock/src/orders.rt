@@ -15,7 +15,7 @@ const PULSE: u64 = 250;
 /// A turnout is thrown and a signal is shown by a port that falls back to 0 by itself. No port of these accessories
 /// stays at 1, and the last port that was set to 1 tells where the accessory lies.
 pub fn order_line(own: u8, order: Order) -> LineBuf
-    ensures { result ≡ order_line own order }
+    ensures { result.items ≡ order_line own order }
 {
     match order {
         Order::Lock(device) => lock_line(device),
@@ -28,8 +28,8 @@ pub fn order_line(own: u8, order: Order) -> LineBuf
 /// Begins a line: a command word, a bus, group words, and an address.
 fn begun(command: &[u8], bus: u8, group: &[u8], address: u32) -> LineBuf
     requires { length command.now + length group.now ≤ longest_words }
-    ensures text { result ≡ command.now ++ decimal bus ++ group.now ++ decimal address }
-    ensures few { length result ≤ longest_begun }
+    ensures text { result.items ≡ command.now ++ decimal bus ++ group.now ++ decimal address }
+    ensures few { length result.items ≤ longest_begun }
 {
     let mut line = LineBuf::new();
     put_bytes(command, &mut line);
@@ -40,7 +40,7 @@ fn begun(command: &[u8], bus: u8, group: &[u8], address: u32) -> LineBuf
 }
 
 fn lock_line(device: Device) -> LineBuf
-    ensures { result ≡ order_line 0 (Order.Lock device) }
+    ensures { result.items ≡ order_line 0 (Order.Lock device) }
 {
     let mut line = begun(b"SET ", device.bus, b" LOCK GA ", device.address);
     put_bytes(b" 0\n", &mut line);
@@ -48,7 +48,7 @@ fn lock_line(device: Device) -> LineBuf
 }
 
 fn unlock_line(device: Device) -> LineBuf
-    ensures { result ≡ order_line 0 (Order.Unlock device) }
+    ensures { result.items ≡ order_line 0 (Order.Unlock device) }
 {
     let mut line = begun(b"TERM ", device.bus, b" LOCK GA ", device.address);
     put_bytes(b"\n", &mut line);
@@ -56,7 +56,7 @@ fn unlock_line(device: Device) -> LineBuf
 }
 
 fn set_line(setting: Setting) -> LineBuf
-    ensures { result ≡ set_line setting }
+    ensures { result.items ≡ set_line setting }
 {
     let mut line = begun(b"SET ", setting.device.bus, b" GA ", setting.device.address);
     put_bytes(b" ", &mut line);
@@ -68,7 +68,7 @@ fn set_line(setting: Setting) -> LineBuf
 }
 
 fn report_line(own: u8, number: u32, is_set: bool) -> LineBuf
-    ensures { result ≡ order_line own (Order.Report number is_set) }
+    ensures { result.items ≡ order_line own (Order.Report number is_set) }
 {
     let mut line = begun(b"SET ", own, b" FB ", number);
     put_bytes(if is_set { b" 1\n" } else { b" 0\n" }, &mut line);

@@ -27,8 +27,8 @@ use Rattle.srcp_peers.proofs.PeersStayKept.{account_more, alien, own, picks, ski
 use Rattle.srcp_peers.proofs.OnePeerChanges.{kept_spared}
 use Rattle.srcp_log.proofs.SocketsStayStanding.{absent_above, all_sound, not_listener}
 
-abbrev pub new_peer : (clock number : ℕ) → Peer
-new_peer clock number = record {
+abbrev pub new_peer : (service number : ℕ) → Peer
+new_peer service number = record {
   number = number;
   outgoing = [];
   incoming = [];
@@ -39,7 +39,7 @@ new_peer clock number = record {
   share = record { line = boundary.At; rest = 0 };
   ending = ending.Open;
   awaits_reply = true;
-  heard = clock;
+  served = service;
   lines_left = 300;
 }
 
@@ -65,9 +65,9 @@ spares_come old new number done other differ tells =
     (cases_eq other 0))
 
 -- a new peer is what its account says
-fresh_agrees : (clock number : ℕ) (a : Account) (done : Unit {0}) → Fresh a → Sound a
-    → Agrees (accepted a (Ok done)) (new_peer clock number)
-fresh_agrees clock number a done f s = record {
+fresh_agrees : (service number : ℕ) (a : Account) (done : Unit {0}) → Fresh a → Sound a
+    → Agrees (accepted a (Ok done)) (new_peer service number)
+fresh_agrees service number a done f s = record {
   reads = (f.gave ∙ sym (ap (λ h. h ++ []) f.handed), (refl, refl, refl, refl));
   writes = (f.written ∙ sym (ap (λ h. h ++ []) f.took), refl, refl);
   cut = refl;
@@ -111,23 +111,23 @@ absent_push socket peers p absent = (
       (ap (λ (x : Peer). x.number) (get_or_push peers p p (length peers) refl) ∙ sym e),
 )
 
-pub stands_come : (old new : List Step) (peers : List Peer) (l : Listening) (clock last : ℕ) (done : Unit {0})
+pub stands_come : (old new : List Step) (peers : List Peer) (l : Listening) (service last : ℕ) (done : Unit {0})
     → new ≡ old ++ Accepts (last + 1) (Ok done) ∷ [] → Stands old peers l last
-    → Stands new (peers ++ new_peer clock (last + 1) ∷ []) l (last + 1)
-stands_come old new peers l clock last done tells stands = record {
+    → Stands new (peers ++ new_peer service (last + 1) ∷ []) l (last + 1)
+stands_come old new peers l service last done tells stands = record {
   kept = kept;
-  apart = push_apart peers (new_peer clock (last + 1)) stands.apart (absent_above last (last + 1) peers stands.within (omega arith));
-  within = at_push (λ (p : Peer). (0 < p.number) × (p.number ≤ last + 1)) peers (new_peer clock (last + 1))
+  apart = push_apart peers (new_peer service (last + 1)) stands.apart (absent_above last (last + 1) peers stands.within (omega arith));
+  within = at_push (λ (p : Peer). (0 < p.number) × (p.number ≤ last + 1)) peers (new_peer service (last + 1))
       (λ k d lt. let w = stands.within k d lt in (w.0, (let m : (slice_index_or peers k d).number ≤ last = w.1 in omega (arith, m))))
       (omega arith, omega arith);
-  sound = all_sound new (peers ++ new_peer clock (last + 1) ∷ []) kept (λ socket absent.
-      let there = absent_push socket peers (new_peer clock (last + 1)) absent in
+  sound = all_sound new (peers ++ new_peer service (last + 1) ∷ []) kept (λ socket absent.
+      let there = absent_push socket peers (new_peer service (last + 1)) absent in
       subst Sound (sym (spares_come old new (last + 1) done socket there.1 tells)) (stands.sound socket));
   fresh = λ socket above.
       subst Fresh (sym (spares_come old new (last + 1) done socket (λ e. omega (arith, above, e)) tells))
       (stands.fresh socket (omega (arith, above)));
   closed = λ socket absent.
-      let there = absent_push socket peers (new_peer clock (last + 1)) absent in
+      let there = absent_push socket peers (new_peer service (last + 1)) absent in
       subst Closed (sym (spares_come old new (last + 1) done socket there.1 tells)) (stands.closed socket there.0);
   heard = subst (λ (a : Account). Hears a l) (sym (spares_come old new (last + 1) done 0 (λ e. omega (arith, e)) tells)) stands.heard;
 }
@@ -139,16 +139,16 @@ stands_come old new peers l clock last done tells stands = record {
         kept_spared old new (slice_index_or peers k d)
         (spares_come old new (last + 1) done (slice_index_or peers k d).number (λ e. omega (arith, m, e)) tells) (stands.kept k d lt)
 
-    one_kept : IsKept new (new_peer clock (last + 1))
+    one_kept : IsKept new (new_peer service (last + 1))
     one_kept =
         let more : account (last + 1) new ≡ accepted (account (last + 1) old) (Ok done) =
         ap (account (last + 1)) tells ∙ account_more (last + 1) old (Accepts (last + 1) (Ok done))
         ∙ accept_new (last + 1) (account (last + 1) old) (Ok done) (λ e. omega (arith, e)) in
-        subst (λ (a : Account). Agrees a (new_peer clock (last + 1))) (sym more)
-        (fresh_agrees clock (last + 1) (account (last + 1) old) done (stands.fresh (last + 1) (omega arith)) (stands.sound (last + 1)))
+        subst (λ (a : Account). Agrees a (new_peer service (last + 1))) (sym more)
+        (fresh_agrees service (last + 1) (account (last + 1) old) done (stands.fresh (last + 1) (omega arith)) (stands.sound (last + 1)))
 
-    kept : AreKept new (peers ++ new_peer clock (last + 1) ∷ [])
-    kept = at_push (IsKept new) peers (new_peer clock (last + 1)) old_kept one_kept
+    kept : AreKept new (peers ++ new_peer service (last + 1) ∷ [])
+    kept = at_push (IsKept new) peers (new_peer service (last + 1)) old_kept one_kept
 
 -- one that is not quiet is heard otherwise, and still not as quiet
 hears_loud : (a : Account) (l other : Listening) → is_quiet l ≡ false → is_quiet other ≡ false → Hears a l → Hears a other
@@ -243,14 +243,14 @@ stands_refused old new peers l last number fault loud tells stands = record {
     more = ap (account 0) tells ∙ account_more 0 old (Accepts number (Err fault))
 
 -- a new peer, by the names that the function gives
-pub stands_came : (old new : List Step) (peers items : List Peer) (peer : Peer) (l : Listening) (clock last number : ℕ)
+pub stands_came : (old new : List Step) (peers items : List Peer) (peer : Peer) (l : Listening) (service last number : ℕ)
     (done : Unit {0})
-    → number ≡ last + 1 → items ≡ peers ++ peer ∷ [] → peer ≡ new_peer clock number
+    → number ≡ last + 1 → items ≡ peers ++ peer ∷ [] → peer ≡ new_peer service number
     → new ≡ old ++ Accepts number (Ok done) ∷ [] → Stands old peers l last → Stands new items l number
-stands_came old new peers items peer l clock last number done next pushed is tells stands =
+stands_came old new peers items peer l service last number done next pushed is tells stands =
     let accepts : new ≡ old ++ Accepts (last + 1) (Ok done) ∷ [] =
     subst (λ (n : ℕ). new ≡ old ++ Accepts n (Ok done) ∷ []) next tells in
-    let received = stands_come old new peers l clock last done accepts stands in
-    let one : new_peer clock (last + 1) ≡ peer = ap (new_peer clock) (sym next) ∙ sym is in
+    let received = stands_come old new peers l service last done accepts stands in
+    let one : new_peer service (last + 1) ≡ peer = ap (new_peer service) (sym next) ∙ sym is in
     subst (λ (n : ℕ). Stands new items l n) (sym next)
     (subst (λ (ps : List Peer). Stands new ps l (last + 1)) (ap (λ (p : Peer). peers ++ p ∷ []) one ∙ sym pushed) received)

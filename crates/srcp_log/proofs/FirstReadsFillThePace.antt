@@ -12,7 +12,7 @@ use Rattle.std.proofs.lemmas.List.{length-take, take_all}
 use Rattle.std.proofs.lemmas.List.Sums.{sum_by-cons}
 use Rattle.srcp_grammar.specs.Grammar.{named_in}
 use Rattle.srcp_grammar.specs.Weight.{weight, weight_of as weight_of_words, weights}
-use Rattle.srcp_door.specs.Pacing.{Allows, IsLongest, Seen, line_weight, lines, seen_after, weight_of}
+use Rattle.srcp_door.specs.Pacing.{Allows, IsLongest, Seen, is_short_pace, line_weight, lines, rest_at, seen_after, weight_of}
 use Rattle.srcp_door.specs.declared.door.DoorFault.{DoorFault}
 use Rattle.srcp_door.specs.declared.door.Got.{Got}
 use Rattle.srcp_door.specs.declared.pacing.LineBoundary.{LineBoundary}
@@ -31,7 +31,7 @@ use Rattle.srcp_peers.specs.Peers.{Agrees, IsKept, ReadsAs, StaysAs}
 use Rattle.srcp_peers.specs.Reports.{IsAnswered, piece_of}
 use Rattle.srcp_peers.specs.Steps.{Step}
 use Rattle.srcp_peers.specs.Times.{times}
-use Rattle.srcp_peers.specs.Turns.{got_bytes, is_short_pace, own_pace}
+use Rattle.srcp_peers.specs.Turns.{got_bytes, own_pace}
 use Rattle.srcp_peers.proofs.PeersRestByAccount.{held_is}
 use Rattle.srcp_peers.proofs.StatesFollowSteps.{reads_here}
 use Rattle.srcp_log.specs.Doors.{IsThere, Stands}
@@ -116,8 +116,8 @@ fills (Paced left) share piece count ample whole low h = record {
       omega (arith, go, there);
 }
   where
-    all : take share.rest piece ≡ piece
-    all = ap (λ (n : ℕ). take n piece) whole ∙ take_all 256 piece low
+    all : take (rest_at (Paced left) share piece) piece ≡ piece
+    all = ap (λ (n : ℕ). take n piece) (ap (λ (b : Bool). cond b (length piece) share.rest) ample ∙ whole) ∙ take_all 256 piece low
 
     own : IsLongest share.line left piece h.own
     own = subst (λ (p : List ℕ). IsLongest share.line left p h.own) all h.is_own
@@ -141,7 +141,7 @@ own_whole : (waits : Bool) (pace : Pace) → is_short_pace pace ≡ false → ow
 own_whole true pace ample = ap (λ (b : Bool). cond b (Paced 0) pace) ample
 own_whole false pace ample = refl
 
-here_is : (watched : Bool) (lingering : Lingering) (outgoing : List ℕ) (here : Stay) → StaysAs watched lingering outgoing here
+pub here_is : (watched : Bool) (lingering : Lingering) (outgoing : List ℕ) (here : Stay) → StaysAs watched lingering outgoing here
     → watched ≡ true → here ≡ stay.Here
 here_is watched lingering outgoing stay.Here h e = refl
 here_is watched lingering outgoing (stay.Draining since) h e = absurd (true≢false (sym e ∙ h.0))
@@ -151,17 +151,17 @@ piece_low : (p : Peer) (space : ℕ) → length (piece_of p space) ≤ 256
 piece_low p space = omega (arith, length-take (min 256 space) p.incoming)
 
 pub read_filled : (old : List Step) (turn : Turn) (peers later : List Peer) (l : Listening) (last who space : ℕ)
-    (answer : Result Got DoorFault) (buffer : List ℕ) (starved now : Bool) → Stands old peers l last → IsTimed old turn
+    (answer : Result Got DoorFault) (buffer : List ℕ) → Stands old peers l last → IsTimed old turn
     → AreWhole turn.timekeeper.wall turn.timekeeper.start old peers → length buffer ≡ space
-    → IsPeerRead turn peers later who space answer (got_bytes answer buffer) starved now
+    → IsPeerRead turn peers later who space answer (got_bytes answer buffer)
     → IsFilled turn.timekeeper.wall turn.timekeeper.start old who answer buffer
-read_filled old turn peers later l last who space answer buffer starved now stands timed whole long read = ⊎_elim
+read_filled old turn peers later l last who space answer buffer stands timed whole long read = ⊎_elim
     (λ (there : IsThere who peers).
     let p : Peer = slice_index_or peers there.index nobody in
     let same : p.number ≡ who = there.same nobody in
     subst (λ (n : ℕ). IsFilled wall start old n answer buffer) same
     (each p (stands.kept there.index nobody there.within)
-    (λ here. let r = read there.index nobody there.within (same, here) in (goes_behind turn peers p, r.0, r.1))
+    (λ here. let r = read there.index nobody there.within (same, here) in (goes_behind turn peers p, r.0))
     (whole there.index nobody there.within)))
     (λ (absent : IsAbsent who peers) first. absurd (true≢false (sym first.watched ∙ (stands.closed who absent).watched)))
     (find_peer who peers)
@@ -173,7 +173,7 @@ read_filled old turn peers later l last who space answer buffer starved now stan
     start = turn.timekeeper.start
 
     each : (p : Peer) → IsKept old p
-        → (p.stay ≡ stay.Here → (waits kept : Bool) × IsAnswered turn waits p space answer (got_bytes answer buffer) kept)
+        → (p.stay ≡ stay.Here → (waits : Bool) × IsAnswered turn waits p space answer (got_bytes answer buffer))
         → (are_anew wall start old ≡ true → is_unread p.number old ≡ true → p.share.rest ≡ 256)
         → IsFilled wall start old p.number answer buffer
     each p agrees answered rest first =
@@ -189,7 +189,7 @@ read_filled old turn peers later l last who space answer buffer starved now stan
         let count : ℕ = length (got_bytes answer buffer) in
         let r = answered here in
         let allows : Allows turn.pace p.share (piece_of p space) count =
-        subst (λ (pace : Pace). Allows pace p.share (piece_of p space) count) (own_whole r.0 turn.pace ample) (r.2.some some).1 in
+        subst (λ (pace : Pace). Allows pace p.share (piece_of p space) count) (own_whole r.0 turn.pace ample) (r.1.some some).1 in
         let filled : FillsPace turn.pace p.share.line (piece_of p space) count =
         fills turn.pace p.share (piece_of p space) count ample (rest first.anew first.unread) (piece_low p space) allows in
         subst (λ (pace : Pace). FillsPace pace ((times wall start old).lines p.number) (held_piece a.received (length buffer)) count)

@@ -18,5 +18,7 @@ pub mod WaitsAreFlushed
 pub mod WaitsOverWorkAreBrief
 pub mod AnswersAreBounded
 pub mod PeersAreFrom
+pub mod ServicesAreCounted
 pub mod SharesAreWhole
+pub mod TurnsAreTaken
 pub mod FirstReadsFillThePace

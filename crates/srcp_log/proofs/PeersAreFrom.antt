@@ -1,7 +1,7 @@
 -- Each peer was one of those before, by its number.
 use Rattle.std.proofs.Common.{◌≡◌, ◌∙◌, ℕ, ◌<◌, ◌≤◌, Bool, List, [], ◌∷◌, ◌++◌, length, refl, ap, sym, subst, arith, ⊎_elim}
 use Rattle.std.proofs.Common.{◌==◌, get_or, set, get_or-set_other, get_or-set_same, if◌then◌else◌, true, false}
-use Rattle.std.specs.Prelude.{◌||◌, ◌-◌, All, cond, fold, nat_le, slice_index_or}
+use Rattle.std.specs.Prelude.{◌≢◌, ◌||◌, All, cond, fold, slice_index_or}
 use Rattle.std.specs.List.{remove}
 use Rattle.std.proofs.lemmas.Bool.{cases_eq}
 use Rattle.std.proofs.lemmas.List.{get_or_default, length-set}
@@ -10,7 +10,7 @@ use Rattle.srcp_door.specs.declared.pacing.Share.{Share}
 use Rattle.srcp_peers.specs.declared.peer.Peer.{Peer}
 use Rattle.srcp_peers.specs.declared.system.Ready.{Ready}
 use Rattle.srcp_peers.specs.AllPeers.{AreApart, AreShared, AreThose}
-use Rattle.srcp_peers.specs.Peers.{IsShared, KeepsRest, KeepsShare, after_wake, is_here, is_silent, woken_input, woken_output}
+use Rattle.srcp_peers.specs.Peers.{IsShared, KeepsRest, KeepsShare, after_wake, is_here, woken_input, woken_output}
 use Rattle.srcp_peers.proofs.PeersStayKept.{all_number}
 use Rattle.srcp_log.specs.Work.{AreFrom, IsFrom}
 use Rattle.srcp_log.proofs.SocketsLingerAndClose.{leaves_one}
@@ -62,6 +62,22 @@ from_set Holds stays peers i p q within at same holds k d lt =
     (there Holds peers k d (get_or peers k d) low refl (stays (get_or peers k d))))
     (cases_eq k i)
 
+-- the others are kept so if they have another number
+pub from_set_of : (Holds : Peer → Peer → Type 0) (peers : List Peer) (i : ℕ) (p q : Peer) → i < length peers → p ≡ get_or peers i p
+    → q.number ≡ p.number → AreApart peers → ((other : Peer) → other.number ≢ p.number → Holds other other) → Holds p q
+    → AreFrom Holds peers (set peers i q)
+from_set_of Holds peers i p q within at same apart stays holds k d lt =
+    let low : k < length peers = omega (arith, lt, length-set peers i q) in
+    ⊎_elim
+    (λ (e : k ≡ i). subst (IsFrom Holds peers) (sym (ap (λ n. get_or (set peers i q) n d) e ∙ get_or-set_same peers i q d within))
+    (i, p, within, sym at, (same, holds)))
+    (λ (ne : k ≡ i → ⊥). subst (IsFrom Holds peers) (sym (get_or-set_other peers i k q d ne))
+    (there Holds peers k p (get_or peers k d) low (ap (λ (x : Peer). x.number) (get_or_default peers k d p low))
+    (subst (λ (x : Peer). Holds x (get_or peers k d)) (get_or_default peers k d p low)
+    (stays (get_or peers k d) (λ e. apart k i p low within ne
+    (sym (ap (λ (x : Peer). x.number) (get_or_default peers k d p low)) ∙ e ∙ ap (λ (x : Peer). x.number) at))))))
+    (cases_eq k i)
+
 pub from_removed : (Holds : Peer → Peer → Type 0) → ((p : Peer) → Holds p p) → (peers : List Peer) (i : ℕ) (p : Peer)
     → i < length peers → get_or peers i p ≡ p → AreApart peers → AreFrom Holds peers (remove peers i)
 from_removed Holds stays peers i p within at apart k d lt =
@@ -106,22 +122,18 @@ rest_then a b c one two = (
 pub rest_shares : (a b : Peer) → KeepsRest a b → KeepsShare a b
 rest_shares a b h = h.0
 
-shared_then : (anew : Bool) (clock : ℕ) (a b c : Peer) → KeepsShare a b → IsShared anew clock b c → IsShared anew clock a c
-shared_then anew clock a b c stays h = (
-  h.0 ∙ ap (λ (n : ℕ). cond (anew || nat_le 50 (clock - n)) 256 b.share.rest) stays.1
-      ∙ ap (λ (s : Share). cond {A = ℕ} (anew || is_silent clock a) 256 s.rest) stays.0,
-  h.1 ∙ stays.1,
-)
+shared_then : (anew : Bool) (a b c : Peer) → KeepsShare a b → IsShared anew b c → IsShared anew a c
+shared_then anew a b c stays h = (h.0 ∙ ap (λ (s : Share). cond {A = ℕ} anew 256 s.rest) stays.0, h.1 ∙ stays.1)
 
 -- what a turn keeps until the visits begin, and what these make of the shares
-pub all_shared : (anew : Bool) (clock : ℕ) (old gone looked new : List Peer) → AreFrom KeepsRest old gone
-    → AreFrom KeepsShare gone looked → length new ≡ length looked → AreThose looked new → AreShared anew clock looked new
-    → AreFrom (IsShared anew clock) old new
-all_shared anew clock old gone looked new left kept long those shared =
-    from_then KeepsShare (IsShared anew clock) (IsShared anew clock) (shared_then anew clock) old looked new
+pub all_shared : (anew : Bool) (old gone looked new : List Peer) → AreFrom KeepsRest old gone
+    → AreFrom KeepsShare gone looked → length new ≡ length looked → AreThose looked new → AreShared anew looked new
+    → AreFrom (IsShared anew) old new
+all_shared anew old gone looked new left kept long those shared =
+    from_then KeepsShare (IsShared anew) (IsShared anew) (shared_then anew) old looked new
     (from_then KeepsRest KeepsShare KeepsShare (λ a b c rest share. share_then a b c (rest_shares a b rest) share) old gone looked left
     kept)
-    (from_each (IsShared anew clock) looked new long those shared)
+    (from_each (IsShared anew) looked new long those shared)
 
 -- a socket was found ready
 woken_one : (p : Peer) (one : Ready) → KeepsShare p (after_wake p one)

@@ -6,7 +6,7 @@ use Rattle.std.specs.Prelude.{◌≢◌, Result, min}
 use Rattle.std.proofs.Math.Seq.{drop-append_seam}
 use Rattle.std.proofs.lemmas.Bool.{cases_lt}
 use Rattle.std.proofs.lemmas.Bool.Decides.{nat_tests}
-use Rattle.srcp_door.specs.Pacing.{Allows, IsLongest, IsShare, lines, weight_of}
+use Rattle.srcp_door.specs.Pacing.{Allows, IsLongest, IsShare, lines, rest_at, weight_of}
 use Rattle.srcp_door.specs.declared.door.DoorFault.{DoorFault}
 use Rattle.srcp_door.specs.declared.door.DoorFault.TheVariants as fault
 use Rattle.srcp_door.specs.declared.door.Got.{Got}
@@ -62,8 +62,8 @@ granted line most rest piece count h = light_longest line (weight_of line (take 
 
 allowed : (pace : Pace) (share : Share) (piece : List ℕ) (count : ℕ) → Allows pace share piece count
     → IsHandedOut share.line piece count
-allowed (Paced left) share piece count h = granted share.line left share.rest piece count h
-allowed OneLine share piece count h = granted share.line h.first share.rest piece count h.share
+allowed (Paced left) share piece count h = granted share.line left (rest_at (Paced left) share piece) piece count h
+allowed OneLine share piece count h = granted share.line h.first (rest_at OneLine share piece) piece count h.share
 
 -- ---- who failed
 
@@ -161,11 +161,11 @@ piece_held received p space buffer gave long =
 
 -- of a peer that is there
 pub read_done : (wall start : ℕ) (log : List Step) (turn : Turn) (waits : Bool) (p : Peer) (answer : Result Got DoorFault)
-    (buffer : List ℕ) (space : ℕ) (kept : Bool) → Timed (times wall start log) turn → IsKept log p
+    (buffer : List ℕ) (space : ℕ) → Timed (times wall start log) turn → IsKept log p
     → p.stay ≡ stay.Here → is_as_far (ending_of p.number log) p.ending ≡ true → length buffer ≡ space
-    → IsAnswered turn waits p space answer (got_bytes answer buffer) kept
+    → IsAnswered turn waits p space answer (got_bytes answer buffer)
     → IsReadDone wall start log p.number answer buffer
-read_done wall start log turn waits p answer buffer space kept timed agrees here far long answered =
+read_done wall start log turn waits p answer buffer space timed agrees here far long answered =
     let a : Account = account p.number log in
     let h : Agrees a p = agrees in
     let reads : ReadsAs a.received p.incoming p.input = reads_here a.received p.incoming p.input p.stay here h.reads in

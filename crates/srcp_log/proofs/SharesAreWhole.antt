@@ -1,59 +1,37 @@
 -- A share is whole in a turn behind one at whose end every line might go, and a read hands out all that may go then.
 use Rattle.std.proofs.Common.{◌≡◌, ◌∙◌, ℕ, ◌+◌, ◌<◌, ◌≤◌, Bool, true, false, not, cond}
-use Rattle.std.proofs.Common.{List, [], ◌∷◌, ◌++◌, take, refl, ap, sym, subst}
+use Rattle.std.proofs.Common.{List, [], ◌∷◌, ◌++◌, refl, ap, sym, subst}
 use Rattle.std.proofs.Common.{arith, ⊎_elim, ◌==◌, ◌&&◌, ◌||◌, Option, Some, None, Ok, Err, true≢false}
 use Rattle.std.proofs.Common.{append-nil, append_assoc}
-use Rattle.std.specs.Prelude.{◌≢◌, All, Result, fold, slice_index_or}
+use Rattle.std.specs.Prelude.{◌≢◌, All, Result, fold, length, min, slice_index_or}
 use Rattle.std.proofs.lemmas.Bool.{cases_lt}
 use Rattle.std.proofs.lemmas.Bool.Decides.{nat_tests}
 use Rattle.std.proofs.lemmas.List.Sums.{fold-append}
-use Rattle.srcp_grammar.specs.Weight.{weight}
 use Rattle.srcp_door.specs.Calls.{Call, ExpectCall, NowCall, AcceptCall, ReadCall, WriteCall, CloseCall}
 use Rattle.srcp_door.specs.Moments.{Moments}
-use Rattle.srcp_door.specs.Pacing.{IsShort, spent, weight_of}
+use Rattle.srcp_door.specs.Pacing.{is_short_pace}
 use Rattle.srcp_door.specs.declared.door.DoorFault.{DoorFault}
 use Rattle.srcp_door.specs.declared.door.Got.{Got}
-use Rattle.srcp_door.specs.declared.door.Got.TheVariants as got
-use Rattle.srcp_door.specs.declared.pacing.LineBoundary.{LineBoundary}
 use Rattle.srcp_door.specs.declared.pacing.Pace.{Pace}
-use Rattle.srcp_door.specs.declared.pacing.Pace.TheVariants.{Paced, OneLine}
 use Rattle.srcp_door.specs.declared.pacing.Share.{Share}
 use Rattle.srcp_peers.specs.declared.peer.Peer.{Peer}
 use Rattle.srcp_peers.specs.declared.turn.Turn.{Turn}
 use Rattle.srcp_peers.specs.AllPeers.{AreWithin}
-use Rattle.srcp_peers.specs.Peers.{IsShared, KeepsShare, is_silent}
+use Rattle.srcp_peers.specs.Peers.{IsShared, KeepsShare}
 use Rattle.srcp_peers.specs.Steps.{Accepts, Answers, Clocks, Closes, Reads, SaysNothing, Shuts, Step, Waits, Writes, call_of, calls}
 use Rattle.srcp_peers.specs.Times.{Times, times_step}
-use Rattle.srcp_peers.specs.Turns.{after_read, is_short_pace}
+use Rattle.srcp_peers.specs.Turns.{got_bytes}
 use Rattle.srcp_peers.proofs.PeersRestByAccount.{and_left, and_right}
 use Rattle.srcp_log.specs.KeptTimes.{IsTimed}
 use Rattle.srcp_log.specs.Shares.{AreFilled, AreWhole, IsFilled, Sharing, SharesHold, anew_after, are_anew}
 use Rattle.srcp_log.specs.Shares.{first_sharing, is_unread, sharing_step, unread_after, unread_called}
+use Rattle.srcp_log.specs.Services.{AfterRead, AreInTurn, EachRead, IsInTurn, IsOrdered, made_after, services}
 use Rattle.srcp_log.specs.Work.{AreFrom, IsFrom, last_after}
 use Rattle.srcp_log.proofs.AcceptsAreAsked.{splits}
 use Rattle.srcp_log.proofs.AnswersAreBounded.{not_silent}
+use Rattle.srcp_log.proofs.PeersAreFrom.{from_weaker}
+use Rattle.srcp_log.proofs.ServicesAreCounted.{Comes, KeepsServed, comes_calls, counted_goes, ordered_read, unserved}
 use Rattle.srcp_log.proofs.WorkIsDone.{clocked_turn, no_calls, not_none, one_only, some_call}
-
--- ---- the pace only falls
-
-short_falls : (pace : Pace) (weight : ℕ) → IsShort pace → IsShort (spent pace weight)
-short_falls (Paced left) weight short = omega arith
-short_falls OneLine weight short = by (weight == 0)
-  where
-    by : (b : Bool) → IsShort (cond b OneLine (Paced 0))
-    by true = tt
-    by false = omega arith
-
-pub stays_short : (turn : Turn) (line : LineBoundary) (answer : Result Got DoorFault) (buffer : List ℕ) → IsShort turn.pace
-    → IsShort (after_read turn line answer buffer).pace
-stays_short turn line (Ok (got.Bytes count)) buffer short = short_falls turn.pace (weight_of line (take count buffer)) short
-stays_short turn line (Ok got.Nothing) buffer short = short
-stays_short turn line (Ok got.Ended) buffer short = short
-stays_short turn line (Err fault) buffer short = short
-
-not_short : (pace : Pace) → is_short_pace pace ≡ false → IsShort pace → ⊥
-not_short (Paced left) ample short = grind (arith, nat_tests)
-not_short OneLine ample short = true≢false ample
 
 -- ---- steps that are no answers
 
@@ -95,9 +73,6 @@ sharing_times x (step ∷ log) = sharing_times (sharing_step x step) log
 
 -- ---- an answer behind such steps
 
-abbrev pub Comes : (old : List Step) → Call → (new : List Step) → Type 0
-Comes old call new = (came : List Step) × (new ≡ old ++ (came ++ Answers call ∷ [])) × (calls came ≡ [])
-
 abbrev pub comes_once : (old new : List Step) (call : Call) → new ≡ old ++ Answers call ∷ [] → Comes old call new
 comes_once old new call is = ([], is, refl)
 
@@ -133,10 +108,10 @@ whole_goes wall start old new peers later same unread froms whole k d lt anew fr
     ∙ was (sym same ∙ anew) (subst (λ (n : ℕ). is_unread n old ≡ true) from.4.0 (unread q.number free))
 
 -- each read was as it should be
-filled_goes : (wall start : ℕ) (old new : List Step) (call : Call) (comes : Comes old call new)
-    → ((who : ℕ) (answer : Result Got DoorFault) (buffer : List ℕ) → call ≡ ReadCall who answer buffer
-    → IsFilled wall start (old ++ comes.0) who answer buffer) → AreFilled wall start old → AreFilled wall start new
-filled_goes wall start old new call (came, is, none) fills was before after who answer buffer e = ⊎_elim
+each_goes : (IsSuch : List Step → ℕ → Result Got DoorFault → List ℕ → Type 0) (old new : List Step) (call : Call)
+    (comes : Comes old call new) → ((who : ℕ) (answer : Result Got DoorFault) (buffer : List ℕ) → call ≡ ReadCall who answer buffer
+    → IsSuch (old ++ comes.0) who answer buffer) → EachRead IsSuch old → EachRead IsSuch new
+each_goes IsSuch old new call (came, is, none) such was before after who answer buffer e = ⊎_elim
     (λ (here : (rest : List Step) × (old ≡ before ++ Answers x ∷ rest)). was before here.0 who answer buffer here.1)
     (λ (there : (mid : List Step) × (came ++ Answers call ∷ [] ≡ mid ++ Answers x ∷ after) × (before ≡ old ++ mid)). ⊎_elim
     (λ (here : (rest : List Step) × (came ≡ there.0 ++ Answers x ∷ rest)).
@@ -145,7 +120,7 @@ filled_goes wall start old new call (came, is, none) fills was before after who 
     let one = one_only (Answers call) (Answers x) last.0 after last.1 in
     let same : call ≡ x = cc in
     let all : before ≡ old ++ came = cc (append-nil came) in
-    subst (λ (l : List Step). IsFilled wall start l who answer buffer) (sym all) (fills who answer buffer same))
+    subst (λ (l : List Step). IsSuch l who answer buffer) (sym all) (such who answer buffer same))
     (splits came (Answers call ∷ []) there.0 after (Answers x) there.1))
     (splits old (came ++ Answers call ∷ []) before after (Answers x) (sym is ∙ e))
   where
@@ -182,12 +157,11 @@ no_read : (call : Call) (who : ℕ) (answer : Result Got DoorFault) (buffer : Li
     → call ≡ ReadCall who answer buffer → ⊥
 no_read call who answer buffer e is = true≢false (sym e ∙ ap leaves_shares is)
 
-pub shares_called : (old new : List Step) (call : Call) (before after : Turn) (starved now : Bool) (peers later : List Peer)
-    → Comes old call new → leaves_shares call ≡ true → after.timekeeper ≡ before.timekeeper → after.pace ≡ before.pace
-    → now ≡ starved → All (λ peer. is_unread peer.number new ≡ true → IsFrom KeepsShare peers peer) later
-    → SharesHold old before starved peers → SharesHold new after now later
-shares_called old new call before after starved now peers later comes leaves clocks pace stays froms h = record {
-  short = λ e. subst IsShort (sym pace) (h.short (sym stays ∙ e));
+pub shares_called : (old new : List Step) (call : Call) (before after : Turn) (made now : ℕ) (peers later : List Peer)
+    → Comes old call new → leaves_shares call ≡ true → after.timekeeper ≡ before.timekeeper → now ≡ made_after call made
+    → All (IsOrdered call now peers) later → All (λ peer. is_unread peer.number new ≡ true → IsFrom KeepsShare peers peer) later
+    → SharesHold old before made peers → SharesHold new after now later
+shares_called old new call before after made now peers later comes leaves clocks counts ordered froms h = record {
   whole = subst (λ (m : Moments). AreWhole m.wall m.start new later) (sym clocks)
       (whole_goes wall start old new peers later
       (anew_of wall start old new call comes ∙ stays_anew (fold sharing_step (sharing_at wall start old) comes.0) call leaves
@@ -195,8 +169,12 @@ shares_called old new call before after starved now peers later comes leaves clo
       (λ socket free. was_unread socket (is_unread socket old) call leaves (sym (unread_of socket old new call comes) ∙ free))
       froms h.whole);
   filled = subst (λ (m : Moments). AreFilled m.wall m.start new) (sym clocks)
-      (filled_goes wall start old new call comes
+      (each_goes (IsFilled wall start) old new call comes
       (λ who answer buffer is. absurd (no_read call who answer buffer leaves is)) h.filled);
+  counted = counted_goes old new call made now peers later (comes_calls old new call comes) counts ordered h.counted;
+  in_turn = subst (λ (m : Moments). AreInTurn m.wall m.start new) (sym clocks)
+      (each_goes (IsInTurn wall start) old new call comes
+      (λ who answer buffer is. absurd (no_read call who answer buffer leaves is)) h.in_turn);
 }
   where
     wall : ℕ
@@ -244,15 +222,14 @@ other_one who number unread e = (
   and_right (not (who == number)) unread e,
 )
 
-pub shares_read : (old new : List Step) (before after : Turn) (starved now : Bool) (peers later : List Peer) (who : ℕ)
+pub shares_read : (old new : List Step) (before after : Turn) (made now : ℕ) (peers later : List Peer) (who : ℕ)
     (answer : Result Got DoorFault) (buffer : List ℕ) → new ≡ old ++ Answers (ReadCall who answer buffer) ∷ []
-    → after.timekeeper ≡ before.timekeeper
-    → ((starved ≡ true → IsShort before.pace) → now ≡ true → IsShort after.pace)
-    → AreFrom (λ was p. p.number ≢ who → KeepsShare was p) peers later
+    → after.timekeeper ≡ before.timekeeper → now ≡ made_after (ReadCall who answer buffer) made
+    → AreFrom (AfterRead who (got_bytes answer buffer) now) peers later
     → IsFilled before.timekeeper.wall before.timekeeper.start old who answer buffer
-    → SharesHold old before starved peers → SharesHold new after now later
-shares_read old new before after starved now peers later who answer buffer tells clocks short froms fills h = record {
-  short = short h.short;
+    → IsInTurn before.timekeeper.wall before.timekeeper.start old who answer buffer
+    → SharesHold old before made peers → SharesHold new after now later
+shares_read old new before after made now peers later who answer buffer tells clocks counts froms fills turn h = record {
   whole = subst (λ (m : Moments). AreWhole m.wall m.start new later) (sym clocks)
       (whole_goes wall start old new peers later (anew_of wall start old new call comes)
       (λ socket free. (other_one who socket (is_unread socket old) (sym (unread_of socket old new call comes) ∙ free)).1)
@@ -260,10 +237,17 @@ shares_read old new before after starved now peers later who answer buffer tells
       let from = froms k d lt in
       let q : Peer = slice_index_or later k d in
       let other = other_one who q.number (is_unread q.number old) (sym (unread_of q.number old new call comes) ∙ free) in
-      (from.0, from.1, from.2, from.3, (from.4.0, from.4.1 other.0))) h.whole);
+      (from.0, from.1, from.2, from.3, (from.4.0, from.4.1.0 other.0))) h.whole);
   filled = subst (λ (m : Moments). AreFilled m.wall m.start new) (sym clocks)
-      (filled_goes wall start old new call comes
-      (λ w a b is. subst (λ (l : List Step). IsFilled wall start l w a b) (sym (append-nil old)) (the_read w a b is)) h.filled);
+      (each_goes (IsFilled wall start) old new call comes
+      (λ w a b is. subst (λ (l : List Step). IsFilled wall start l w a b) (sym (append-nil old))
+      (the_read (IsFilled wall start old) fills w a b is)) h.filled);
+  counted = counted_goes old new call made now peers later (comes_calls old new call comes) counts
+      (ordered_read who answer buffer now peers later froms) h.counted;
+  in_turn = subst (λ (m : Moments). AreInTurn m.wall m.start new) (sym clocks)
+      (each_goes (IsInTurn wall start) old new call comes
+      (λ w a b is. subst (λ (l : List Step). IsInTurn wall start l w a b) (sym (append-nil old))
+      (the_read (IsInTurn wall start old) turn w a b is)) h.in_turn);
 }
   where
     call : Call
@@ -278,15 +262,14 @@ shares_read old new before after starved now peers later who answer buffer tells
     start : ℕ
     start = before.timekeeper.start
 
-    the_read : (w : ℕ) (a : Result Got DoorFault) (b : List ℕ) → ReadCall who answer buffer ≡ ReadCall w a b
-        → IsFilled wall start old w a b
-    the_read w a b is =
+    the_read : (IsSuch : ℕ → Result Got DoorFault → List ℕ → Type 0) → IsSuch who answer buffer
+        → (w : ℕ) (a : Result Got DoorFault) (b : List ℕ) → ReadCall who answer buffer ≡ ReadCall w a b → IsSuch w a b
+    the_read IsSuch such w a b is =
         let one : who ≡ w = cc in
         let two : answer ≡ a = cc in
         let three : buffer ≡ b = cc in
-        subst (λ (n : ℕ). IsFilled wall start old n a b) one
-        (subst (λ (r : Result Got DoorFault). IsFilled wall start old who r b) two
-        (subst (IsFilled wall start old who answer) three fills))
+        subst (λ (n : ℕ). IsSuch n a b) one
+        (subst (λ (r : Result Got DoorFault). IsSuch who r b) two (subst (IsSuch who answer) three such))
 
 -- in a late turn no read is meant
 pub late_filled : (old : List Step) (turn : Turn) (who : ℕ) (answer : Result Got DoorFault) (buffer : List ℕ) → IsTimed old turn
@@ -296,31 +279,30 @@ late_filled old turn who answer buffer timed late first =
 
 -- ---- a moment
 
-none_short : (starved late short : Bool) (pace : Pace) → short ≡ is_short_pace pace → (starved ≡ true → IsShort pace)
-    → not (short || late) ≡ true → not (starved || late) ≡ true
-none_short true late true pace is was e = absurd (true≢false (sym e))
-none_short true late false pace is was e = absurd (not_short pace (sym is) (was refl))
-none_short false late true pace is was e = absurd (true≢false (sym e))
-none_short false late false pace is was e = e
-
-pub shares_now : (old mid new : List Step) (first begun after : Turn) (starved now : Bool) (peers later : List Peer)
+pub shares_now : (old mid new : List Step) (first begun after : Turn) (made now : ℕ) (peers later : List Peer)
     (shown : Option ℕ) (answer : Result ℕ DoorFault) → SaysNothing old mid → new ≡ mid ++ Clocks shown ∷ Answers (NowCall answer) ∷ []
     → begun.timekeeper ≡ first.timekeeper → begun.pace ≡ first.pace → begun.late ≡ first.late
-    → (after.timekeeper.wall ≡ begun.timekeeper.wall) × (after.timekeeper.start ≡ begun.timekeeper.start) → now ≡ false
-    → IsTimed mid begun → AreFrom (IsShared (not (starved || first.late)) first.clock) peers later
-    → SharesHold old first starved peers → SharesHold new after now later
-shares_now old mid new first begun after starved now peers later shown answer says tells clocks pace late same none timed froms h = record {
-  short = λ e. absurd (true≢false (sym e ∙ none));
+    → (after.timekeeper.wall ≡ begun.timekeeper.wall) × (after.timekeeper.start ≡ begun.timekeeper.start) → now ≡ made
+    → IsTimed mid begun → AreFrom (IsShared (not (is_short_pace first.pace || first.late))) peers later
+    → SharesHold old first made peers → SharesHold new after now later
+shares_now old mid new first begun after made now peers later shown answer says tells clocks pace late same counts timed froms h = record {
   whole = at_clocks (λ w s. AreWhole w s new later)
       (λ k d lt anew free.
       let from = froms k d lt in
-      let renewed : not (starved || first.late) ≡ true = none_short starved first.late (is_short_pace first.pace) first.pace refl h.short
-      (sym (ap (λ (p : Pace). not (is_short_pace p || first.late)) pace)
-      ∙ sym (ap (λ (b : Bool). not (is_short_pace begun.pace || b)) late) ∙ sym anew_now ∙ anew) in
-      from.4.1.0 ∙ ap (λ (b : Bool). cond (b || is_silent first.clock from.1) 256 from.1.share.rest) renewed);
+      let renewed : not (is_short_pace first.pace || first.late) ≡ true =
+      sym (ap (λ (p : Pace). not (is_short_pace p || first.late)) pace)
+      ∙ sym (ap (λ (b : Bool). not (is_short_pace begun.pace || b)) late) ∙ sym anew_now ∙ anew in
+      from.4.1.0 ∙ ap (λ (b : Bool). cond b 256 from.1.share.rest) renewed);
   filled = at_clocks (λ w s. AreFilled w s new)
-      (filled_goes wall start old new call comes (λ w a b is. absurd (no_moment w a b is))
+      (each_goes (IsFilled wall start) old new call comes (λ w a b is. absurd (no_moment w a b is))
       (subst (λ (m : Moments). AreFilled m.wall m.start old) (sym clocks) h.filled));
+  counted = counted_goes old new call made now peers later (comes_calls old new call comes) counts
+      (unserved call now peers later refl
+      (from_weaker (IsShared (not (is_short_pace first.pace || first.late))) KeepsServed (λ was p shared. shared.1) peers later froms))
+      h.counted;
+  in_turn = at_clocks (λ w s. AreInTurn w s new)
+      (each_goes (IsInTurn wall start) old new call comes (λ w a b is. absurd (no_moment w a b is))
+      (subst (λ (m : Moments). AreInTurn m.wall m.start old) (sym clocks) h.in_turn));
 }
   where
     call : Call
@@ -376,11 +358,16 @@ shares_now old mid new first begun after starved now peers later shown answer sa
 
 -- ---- no step was made
 
-pub shares_first : (log : List Step) (turn : Turn) (starved : Bool) (peers : List Peer) → log ≡ [] → IsShort turn.pace
-    → SharesHold log turn starved peers
-shares_first log turn starved peers none short = record {
-  short = λ e. short;
+pub shares_first : (log : List Step) (turn : Turn) (made : ℕ) (peers : List Peer) → log ≡ [] → made ≡ 0 → length peers ≡ 0
+    → SharesHold log turn made peers
+shares_first log turn made peers none zero nobody = record {
   whole = λ k d lt anew free. absurd (true≢false (sym anew ∙ ap (are_anew turn.timekeeper.wall turn.timekeeper.start) none));
   filled = λ before after who answer buffer is.
+      absurd (not_none (Answers (ReadCall who answer buffer)) before after (sym none ∙ is));
+  counted = record {
+    count = λ socket. zero ∙ sym (ap (λ (l : List Step). min (services socket (calls l)).count 18446744073709551615) none);
+    last = λ k d lt. absurd (omega (arith, lt, nobody));
+  };
+  in_turn = λ before after who answer buffer is.
       absurd (not_none (Answers (ReadCall who answer buffer)) before after (sym none ∙ is));
 }

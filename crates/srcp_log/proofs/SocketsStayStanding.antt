@@ -39,7 +39,7 @@ nobody = record {
   share = record { line = boundary.At; rest = 0 };
   ending = ending.Open;
   awaits_reply = true;
-  heard = 0;
+  served = 0;
   lines_left = 300;
 }
 

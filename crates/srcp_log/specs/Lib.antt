@@ -8,6 +8,7 @@ pub mod KeptTimes
 pub mod Limits
 pub mod Loads
 pub mod Names
+pub mod Services
 pub mod Shares
 pub mod Waits
 pub mod Work

@@ -1,22 +1,22 @@
 -- Which reads hand out all lines that the pace lets through.
-use Rattle.std.specs.Prelude.{◌≡◌, ◌≢◌, ℕ, ◌<◌, ◌≤◌, ◌==◌, ◌&&◌, ◌||◌, Bool, true, false, not, All, List, ◌∷◌, ◌++◌}
+use Rattle.std.specs.Prelude.{◌≡◌, ◌≢◌, ℕ, ◌<◌, ◌≤◌, ◌==◌, ◌&&◌, ◌||◌, Bool, true, false, not, All, List}
 use Rattle.std.specs.Prelude.{fold, length, take, Result, Ok, Some}
 use Rattle.std.proofs.Props.{props}
 use Rattle.srcp_info.specs.Limits.{most_in_piece}
 use Rattle.srcp_door.specs.Calls.{Call, NowCall, AcceptCall, ReadCall}
-use Rattle.srcp_door.specs.Pacing.{IsShort, fits, lines, weight_of}
+use Rattle.srcp_door.specs.Pacing.{fits, is_short_pace, lines, weight_of}
 use Rattle.srcp_door.specs.declared.door.DoorFault.{DoorFault}
 use Rattle.srcp_door.specs.declared.door.Got.{Got}
 use Rattle.srcp_door.specs.declared.pacing.LineBoundary.{LineBoundary}
 use Rattle.srcp_door.specs.declared.pacing.Pace.{Pace}
-use Rattle.srcp_door.specs.declared.pacing.Pace.TheVariants.{Paced, OneLine}
 use Rattle.srcp_peers.specs.declared.peer.Peer.{Peer}
 use Rattle.srcp_peers.specs.declared.turn.Turn.{Turn}
 use Rattle.srcp_peers.specs.Accounts.{account, is_held}
 use Rattle.srcp_peers.specs.Steps.{Answers, Step}
 use Rattle.srcp_peers.specs.Times.{Times, first_times, times, times_step}
-use Rattle.srcp_peers.specs.Turns.{got_bytes, is_short_pace}
+use Rattle.srcp_peers.specs.Turns.{got_bytes}
 use Rattle.srcp_log.specs.Duties.{held_piece}
+use Rattle.srcp_log.specs.Services.{AreCounted, AreInTurn, EachRead}
 
 -- ---- whose share is whole
 
@@ -80,8 +80,7 @@ IsFilled wall start log who answer buffer = IsFirstRead wall start log who
 
 -- and was each time
 abbrev pub AreFilled : (wall start : ℕ) → List Step → Type 0
-AreFilled wall start log = (before after : List Step) (who : ℕ) (answer : Result Got DoorFault) (buffer : List ℕ)
-    → log ≡ before ++ Answers (ReadCall who answer buffer) ∷ after → IsFilled wall start before who answer buffer
+AreFilled wall start log = EachRead (IsFilled wall start) log
 
 -- ---- a door
 
@@ -90,16 +89,13 @@ abbrev pub AreWhole : (wall start : ℕ) → List Step → List Peer → Type 0
 AreWhole wall start log peers = All (λ peer. are_anew wall start log ≡ true → is_unread peer.number log ≡ true
     → peer.share.rest ≡ most_in_piece) peers
 
--- a line of a share was kept back only if not every line may go; each share is what the log says, and so was each read
-pub record SharesHold (log : List Step) (turn : Turn) (starved : Bool) (peers : List Peer) : Type 0 where
-  pub short : starved ≡ true → IsShort turn.pace
+-- each share is what the log says, and so are the services; each read handed out what it had to, and in turn
+pub record SharesHold (log : List Step) (turn : Turn) (made : ℕ) (peers : List Peer) : Type 0 where
   pub whole : AreWhole turn.timekeeper.wall turn.timekeeper.start log peers
   pub filled : AreFilled turn.timekeeper.wall turn.timekeeper.start log
+  pub counted : AreCounted log made peers
+  pub in_turn : AreInTurn turn.timekeeper.wall turn.timekeeper.start log
 
-IsShort-prop : (pace : Pace) → IsProp (IsShort pace)
-IsShort-prop (Paced left) = hlevel props
-IsShort-prop OneLine = hlevel props
-
-pub SharesHold-prop : (log : List Step) (turn : Turn) (starved : Bool) (peers : List Peer)
-    → IsProp (SharesHold log turn starved peers)
-SharesHold-prop log turn starved peers = hlevel (props, IsShort-prop)
+pub SharesHold-prop : (log : List Step) (turn : Turn) (made : ℕ) (peers : List Peer)
+    → IsProp (SharesHold log turn made peers)
+SharesHold-prop log turn made peers = hlevel props

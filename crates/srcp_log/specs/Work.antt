@@ -1,26 +1,26 @@
 -- What a door does in a turn, whatever it answers.
 use Rattle.std.specs.Prelude.{◌≡◌, ◌⊎◌, ℕ, ◌<◌, ◌∷◌, ◌++◌, Bool, true, false, ◌&&◌, ◌||◌, not, nat_le, List, []}
 use Rattle.std.specs.Prelude.{All, Any, filter, fold, length, position, slice_index_or, take, Option, Some, None}
-use Rattle.std.specs.Prelude.{◌==◌, cond, Result, Ok, Err}
+use Rattle.std.specs.Prelude.{Result, Ok, Err}
 use Rattle.std.specs.List.{list_any}
 use Rattle.std.specs.declared.io.ErrorKind.{ErrorKind}
 use Rattle.srcp_door.specs.Calls.{AcceptCall, NowCall}
 use Rattle.srcp_door.specs.declared.door.DoorFault.{DoorFault}
 use Rattle.srcp_door.specs.declared.door.DoorFault.TheVariants as fault
 use Rattle.srcp_door.specs.declared.door.Got.{Got}
-use Rattle.srcp_door.specs.Pacing.{share_after}
+use Rattle.srcp_door.specs.Pacing.{is_short_pace, share_after}
 use Rattle.srcp_peers.specs.declared.peer.Peer.{Peer}
 use Rattle.srcp_peers.specs.declared.system.Ready.{Ready}
 use Rattle.srcp_peers.specs.declared.turn.Listening.{Listening}
 use Rattle.srcp_peers.specs.declared.turn.Listening.TheVariants as listening
 use Rattle.srcp_peers.specs.declared.turn.Turn.{Turn}
 use Rattle.srcp_peers.specs.Listeners.{listening_after_failure, woken_listening}
-use Rattle.srcp_peers.specs.Peers.{KeepsRest, Makes, enqueued, goes_first, holds_input, is_gone, is_here, is_shut}
-use Rattle.srcp_peers.specs.Peers.{is_silent}
+use Rattle.srcp_peers.specs.Peers.{KeepsRest, Makes, enqueued, holds_input, is_gone, is_here, is_shut}
+use Rattle.srcp_peers.specs.Peers.{is_turn_before}
 use Rattle.srcp_peers.specs.Reports.{IsAnswered}
 use Rattle.srcp_peers.specs.Steps.{Accepts, Answers, Clocks, Closes, SaysNothing, Step, Waits, failure_of}
 use Rattle.srcp_peers.specs.Times.{accept_answer}
-use Rattle.srcp_peers.specs.Turns.{has_ticked, is_short_pace, moment_at}
+use Rattle.srcp_peers.specs.Turns.{has_ticked, moment_at}
 use Rattle.srcp_peers.specs.Waiting.{longest_wait}
 use Rattle.srcp_log.specs.Doors.{AreStanding, IsPresent, is_quiet}
 use Rattle.srcp_log.specs.Limits.{most_lingering, most_peers}
@@ -117,21 +117,18 @@ pub record FreesPlace (peers : List Peer) (before after : Listening) (old new : 
 
 -- ---- who is read
 
--- its lines go behind those of others: not every line may go, it is not silent, and one that is holds input
+-- its lines go behind those of others: not every line may go, and input is held of a peer that was served longer ago
 abbrev pub goes_behind : Turn → List Peer → Peer → Bool
-goes_behind turn peers p = is_short_pace turn.pace
-    && (not (is_silent turn.clock p) && list_any (goes_first turn.clock) peers)
+goes_behind turn peers p = is_short_pace turn.pace && list_any (is_turn_before p.served) peers
 
--- the read of a peer that is there answered what that peer's read answers, and it is known then whether a line of some
--- peer was kept back. What is left of the peer's share follows, and when something of it was handed out last
+-- the read of a peer that is there answered what that peer's read answers. What is left of the peer's share follows
 abbrev pub IsPeerRead : Turn → (peers later : List Peer) → (number space : ℕ) → Result Got DoorFault
-    → (handed : List ℕ) → (before after : Bool) → Type 0
-IsPeerRead turn peers later number space answer handed before after = (k : ℕ) (d : Peer) → k < length peers
+    → (handed : List ℕ) → Type 0
+IsPeerRead turn peers later number space answer handed = (k : ℕ) (d : Peer) → k < length peers
     → IsPresent number (slice_index_or peers k d)
-    → (let p = slice_index_or peers k d in let q = slice_index_or later k d in
-    (kept : Bool) × IsAnswered turn (goes_behind turn peers p) p space answer handed kept × (after ≡ (before || kept))
-    × (q.share ≡ share_after p.share handed kept)
-    × (q.heard ≡ cond (length handed == 0) p.heard turn.clock))
+    → (let p = slice_index_or peers k d in
+    IsAnswered turn (goes_behind turn peers p) p space answer handed
+    × ((slice_index_or later k d).share ≡ share_after turn.pace p.share handed))
 
 -- ---- who is written
 

@@ -100,7 +100,7 @@ kept_write old new p (Err fault) sound tells kept =
 
 -- some of what is held was handed out
 handed_agrees : (a : Account) (p q : Peer) (received : Received) (honest : Bool) (bytes : List ℕ)
-    → q ≡ record p { incoming = q.incoming; share = q.share; awaits_reply = q.awaits_reply; heard = q.heard }
+    → q ≡ record p { incoming = q.incoming; share = q.share; awaits_reply = q.awaits_reply; served = q.served }
     → p.incoming ≡ bytes ++ q.incoming → ComesAs received q.incoming p.input p.stay
     → q.share.line ≡ line_after boundary.At received.handed → honest ≡ true → Agrees a p
     → Agrees (record a { received = received; honest = honest }) q
@@ -111,7 +111,7 @@ handed_agrees a p q received honest bytes same is reads line rightly h =
 
 -- what a read of the door answered
 got_agrees : (a : Account) (p q : Peer) (answer : Result Got DoorFault) (buffer : List ℕ) → p.stay ≡ stay.Here
-    → q ≡ record p { incoming = q.incoming; share = q.share; awaits_reply = q.awaits_reply; heard = q.heard }
+    → q ≡ record p { incoming = q.incoming; share = q.share; awaits_reply = q.awaits_reply; served = q.served }
     → p.incoming ≡ got_bytes answer buffer ++ q.incoming → q.share.line ≡ line_after p.share.line (got_bytes answer buffer)
     → (answer ≡ Ok got.Ended → MayEnd p) → OnErr answer (MayFail p) → Agrees a p
     → Agrees (answered_step p.number a (ReadCall p.number answer buffer)) q
@@ -142,7 +142,7 @@ got_agrees a p q (Err fault) buffer here same is lined ended failed h =
     (ap (λ b. b && may_fail a) h.honest ∙ may_fail_then a p here failed h) h)
 
 pub kept_got : (old new : List Step) (p q : Peer) (answer : Result Got DoorFault) (buffer : List ℕ)
-    → p.stay ≡ stay.Here → q ≡ record p { incoming = q.incoming; share = q.share; awaits_reply = q.awaits_reply; heard = q.heard }
+    → p.stay ≡ stay.Here → q ≡ record p { incoming = q.incoming; share = q.share; awaits_reply = q.awaits_reply; served = q.served }
     → p.incoming ≡ got_bytes answer buffer ++ q.incoming
     → q.share.line ≡ line_after p.share.line (got_bytes answer buffer)
     → (answer ≡ Ok got.Ended → MayEnd p) → OnErr answer (MayFail p)

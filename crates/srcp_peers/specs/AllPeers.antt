@@ -30,9 +30,9 @@ AreThose old new = (k : ℕ) (d : Peer) → k < length old → (slice_index_or n
     ≡ (slice_index_or old k d).number
 
 -- the share of each is given anew, or is what was left of it
-abbrev pub AreShared : (anew : Bool) (clock : ℕ) → (old new : List Peer) → Type 0
-AreShared anew clock old new = (k : ℕ) (d : Peer) → k < length old
-    → IsShared anew clock (slice_index_or old k d) (slice_index_or new k d)
+abbrev pub AreShared : (anew : Bool) → (old new : List Peer) → Type 0
+AreShared anew old new = (k : ℕ) (d : Peer) → k < length old
+    → IsShared anew (slice_index_or old k d) (slice_index_or new k d)
 
 -- a turn that flushes `what` offers the socket of each what is queued for it, if that is flushed
 abbrev pub AreOffered : Flush → List Peer → (old new : List Step) → Type 0

@@ -13,10 +13,6 @@ retry_delay = 8
 abbrev pub linger : ℕ
 linger = 10000
 
--- the milliseconds after which a peer is silent if nothing of it was handed out
-abbrev pub silence : ℕ
-silence = 50
-
 -- the bytes that are queued for a peer, at most
 abbrev pub most_outgoing : ℕ
 most_outgoing = 40960

@@ -23,7 +23,7 @@ use Rattle.srcp_door.specs.declared.pacing.LineBoundary.TheVariants as boundary
 use Rattle.srcp_peers.specs.Steps.{GrowsBy, Step, Reads, SaysNothing, Writes, failure_of}
 use Rattle.srcp_peers.specs.Times.{KeepsTimes}
 use Rattle.srcp_peers.specs.Accounts.{Account, Lingering, Sent, Received, account, is_overdue}
-use Rattle.srcp_peers.specs.Limits.{flush_threshold, most_drained, most_outgoing, silence}
+use Rattle.srcp_peers.specs.Limits.{flush_threshold, most_drained, most_outgoing}
 
 -- what reads and waits found, if the input is in this state
 abbrev pub FindsAs : Received → Input → Type 0
@@ -261,13 +261,9 @@ is_shut other = false
 abbrev pub holds_input : Peer → Bool
 holds_input p = is_here p.stay && (not p.backpressured && not (length p.incoming == 0))
 
--- nothing of it was handed out for some time when the clock shows this
-abbrev pub is_silent : (clock : ℕ) → Peer → Bool
-is_silent clock p = nat_le silence (clock - p.heard)
-
--- its lines go before those of peers that are not silent
-abbrev pub goes_first : (clock : ℕ) → Peer → Bool
-goes_first clock p = is_silent clock p && holds_input p
+-- it is its turn before that of a peer whose last service has that number: it holds input, and was served longer ago
+abbrev pub is_turn_before : (served : ℕ) → Peer → Bool
+is_turn_before served p = nat_lt p.served served && holds_input p
 
 -- something is queued for it that its socket may still take
 abbrev pub is_waiting : Peer → Bool
@@ -287,9 +283,9 @@ MayEnd p = (p.input ≡ input.Ended) × (p.incoming ≡ []) × (p.ending ≡ end
 abbrev pub MayFail : Peer → Type 0
 MayFail p = (p.input ≡ input.Failed) ⊎ (is_lost p.output ≡ true)
 
--- its share stays, and when something of it was handed out last
+-- its share stays, and the number of its last service
 abbrev pub KeepsShare : (old new : Peer) → Type 0
-KeepsShare old new = (new.share ≡ old.share) × (new.heard ≡ old.heard)
+KeepsShare old new = (new.share ≡ old.share) × (new.served ≡ old.served)
 
 -- a flush leaves its share, how far it is on the way to its end and whether the core has more for it. If it is there,
 -- it stays so, and what came of it stays
@@ -298,10 +294,9 @@ KeepsRest old new = KeepsShare old new × (new.ending ≡ old.ending) × (new.ba
     × (is_here old.stay ≡ true
     → (new.stay ≡ old.stay) × (new.incoming ≡ old.incoming) × (new.input ≡ old.input))
 
--- as its visit begins its share is a whole piece with `anew`, or if it is silent; and else what was left of it
-abbrev pub IsShared : (anew : Bool) (clock : ℕ) → (old new : Peer) → Type 0
-IsShared anew clock old new = (new.share.rest ≡ cond (anew || is_silent clock old) most_in_piece old.share.rest)
-    × (new.heard ≡ old.heard)
+-- as its visit begins its share is a whole piece with `anew`, and else what was left of it
+abbrev pub IsShared : (anew : Bool) → (old new : Peer) → Type 0
+IsShared anew old new = (new.share.rest ≡ cond anew most_in_piece old.share.rest) × (new.served ≡ old.served)
 
 -- ---- what a peer may wait for
 

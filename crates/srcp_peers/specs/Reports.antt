@@ -2,7 +2,7 @@
 use Rattle.std.specs.Prelude.{◌≡◌, ◌≢◌, ℕ, ◌==◌, ◌&&◌, ◌||◌, Bool, true, false, cond, List, [], length, min, take}
 use Rattle.std.specs.Prelude.{Result, Ok, Err}
 use Rattle.srcp_info.specs.Limits.{most_in_piece}
-use Rattle.srcp_door.specs.Pacing.{Allows, keeps_back}
+use Rattle.srcp_door.specs.Pacing.{Allows, fits, weight_of}
 use Rattle.srcp_door.specs.declared.door.DoorFault.{DoorFault}
 use Rattle.srcp_door.specs.declared.door.DoorFault.TheVariants as fault
 use Rattle.srcp_door.specs.declared.door.Got.{Got}
@@ -49,11 +49,11 @@ piece_of p space = take (min most_in_piece space) p.incoming
 
 -- ---- the answer
 
--- a read with space for so many bytes answered so and handed that out, or kept a line back. It handed out as much as
--- the pace and the peer's share allow; if nothing was held, it reported the end. The peer waits if others go first
+-- a read with space for so many bytes answered so and handed that out. It handed out as much as the pace and the peer's
+-- share allow; if nothing was held, it reported the end. The peer waits if others go first
 pub record IsAnswered (turn : Turn) (waits : Bool) (p : Peer) (space : ℕ) (answer : Result Got DoorFault)
-    (handed : List ℕ) (kept : Bool) : Type 0 where
+    (handed : List ℕ) : Type 0 where
   pub end : p.incoming ≡ [] → answer ≡ end_in turn p
   pub some : p.incoming ≢ [] → (reports_end answer ≡ false)
       × Allows (own_pace waits turn.pace) p.share (piece_of p space) (length handed)
-  pub back : kept ≡ keeps_back (own_pace waits turn.pace) p.share (piece_of p space) handed
+  pub fits : fits (own_pace waits turn.pace) (weight_of p.share.line handed) ≡ true

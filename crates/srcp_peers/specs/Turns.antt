@@ -7,7 +7,7 @@ use Rattle.srcp_grammar.specs.Weight.{most_changes}
 use Rattle.srcp_door.specs.Limits.{most_writes, reserve}
 use Rattle.srcp_info.specs.Limits.{greatest_u64}
 use Rattle.srcp_door.specs.Moments.{next_moment, passed, target, most_behind}
-use Rattle.srcp_door.specs.Pacing.{pace_of, spent, weight_of}
+use Rattle.srcp_door.specs.Pacing.{is_short_pace, pace_of, spent, weight_of}
 use Rattle.srcp_door.specs.declared.pacing.LineBoundary.{LineBoundary}
 use Rattle.srcp_door.specs.declared.pacing.Pace.{Pace}
 use Rattle.srcp_door.specs.declared.pacing.Pace.TheVariants.{Paced, OneLine}
@@ -52,11 +52,6 @@ after_call turn (ReadCall peer answer buffer) = turn
 after_call turn other = record turn { busy = turn.busy || stirs other }
 
 -- ---- a read
-
--- not every line may go
-abbrev pub is_short_pace : Pace → Bool
-is_short_pace (Paced left) = nat_lt left most_changes
-is_short_pace OneLine = true
 
 -- the pace of a peer's lines: if others go first and not every line may go, none goes that weighs something
 abbrev pub own_pace : (waits : Bool) → Pace → Pace

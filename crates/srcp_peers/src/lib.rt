@@ -26,7 +26,6 @@ pub use log::{Answer, Log, Logged};
 pub use peer::Peer;
 pub use queue::{Incoming, MOST_INCOMING, MOST_OUTGOING, Outgoing, Queue, Queues};
 pub use readiness::{Flush, Input, Output};
-pub use reading::ReadOutcome;
 pub use stay::{LINGER, Stay};
 pub use system::{IoFailure, Ready, System, failure_of};
 pub use turn::{Listening, RETRY_DELAY, Turn, longest_wait};

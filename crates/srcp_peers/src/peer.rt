@@ -1,12 +1,12 @@
 //! A peer with its socket.
 
-ghost use Rattle.std.specs.Prelude.{◌≡◌, ◌≢◌, ◌<◌, ◌≤◌, ◌||◌, true, false, not, cond, ℕ, [], Ok, length, take, nat_lt};
+ghost use Rattle.std.specs.Prelude.{◌≡◌, ◌≢◌, ◌<◌, ◌≤◌, true, false, not, cond, ℕ, [], Ok, length, take, nat_lt};
 ghost use Rattle.std.specs.Prelude.{◌∷◌, ◌++◌};
 ghost use Rattle.srcp_peers.specs.Steps.{Answers};
 ghost use Rattle.srcp_door.specs.Calls.{WriteCall};
 ghost use Rattle.srcp_peers.specs.Peers.{Asks, CallsForOne, IsKept, Offers, Spares, IsRead, after_wake, has_rest};
 ghost use Rattle.srcp_peers.specs.Peers.{holds_input, is_busy, is_due, is_over, is_resting, is_waiting, is_wanting};
-ghost use Rattle.srcp_peers.specs.Peers.{goes_first, is_lost, is_silent, may_have};
+ghost use Rattle.srcp_peers.specs.Peers.{is_lost, is_turn_before, may_have};
 ghost use Rattle.srcp_peers.specs.Peers.{enqueued, lines_left_after, queued_more, tries_again, woken_output};
 ghost use Rattle.srcp_peers.specs.declared.readiness.Input.{Input};
 ghost use Rattle.srcp_peers.specs.declared.readiness.Output.{Output};
@@ -27,14 +27,11 @@ use srcp_info::{LONGEST_LINE, MOST_IN_PIECE};
 /// of a visit.
 const FLUSH_THRESHOLD: usize = MOST_OUTGOING - MOST_WRITES as usize * LONGEST_LINE;
 
-/// The time after which a peer is silent if nothing of the peer was handed out meanwhile, in milliseconds.
-const SILENCE: u64 = 50;
-
 /// Holds a peer and the state of the peer's socket.
 ///
 /// ```
-/// let mut peer = Peer::new(number, clock, Queues::new(alloc)?);
-/// let outcome = peer.read(&mut system, &mut turn, waits, &mut buffer);
+/// let mut peer = Peer::new(number, service, Queues::new(alloc)?);
+/// let got = peer.read(&mut system, &mut turn, waits, service, &mut buffer);
 /// let taken = peer.write(&mut system, reply);
 /// ```
 #[derive(Drop)]
@@ -61,15 +58,15 @@ pub struct Peer {
     pub ending: Ending,
     /// True if input of the peer was handed out since the last flush: the next bytes written to the peer are a reply.
     pub awaits_reply: bool,
-    /// What the monotonic clock showed when input of the peer was handed out last, or when the peer came, in
-    /// milliseconds.
-    pub heard: u64,
+    /// The number of the peer's last service: input of the peer was handed out then, or the peer came. Each service of
+    /// any peer has a greater number than those before.
+    pub served: u64,
 }
 
 impl Peer {
-    /// Returns a new peer without a share, so that new peers do not keep the others from their lines. `clock` is what
-    /// the monotonic clock shows, in milliseconds.
-    pub fn new(number: u32, clock: u64, queues: Queues) -> Peer
+    /// Returns a new peer without a share, so that new peers do not keep the others from their lines. `service` is the
+    /// number of the service as which the peer's coming counts.
+    pub fn new(number: u32, service: u64, queues: Queues) -> Peer
         ensures { result ≡ record {
           number = number;
           outgoing = [];
@@ -81,7 +78,7 @@ impl Peer {
           share = record { line = LineBoundary.At; rest = 0 };
           ending = Ending.Open;
           awaits_reply = true;
-          heard = clock;
+          served = service;
           lines_left = MOST_WRITES;
         } }
     {
@@ -100,7 +97,7 @@ impl Peer {
             },
             ending: Ending::Open,
             awaits_reply: true,
-            heard: clock,
+            served: service,
             lines_left: MOST_WRITES,
         }
     }
@@ -173,14 +170,12 @@ impl Peer {
             || self.awaits_reply && (self.backpressured || self.incoming.is_empty())
     }
 
-    /// Begins a visit: reads the socket, and takes a step on the way to the end. With `anew`, or if the peer is silent
-    /// when the clock shows `clock`, the share becomes a whole piece again. At most `lines_left` lines may be queued in
-    /// the visit while the socket is full.
+    /// Begins a visit: reads the socket, and takes a step on the way to the end. With `anew` the share becomes a whole
+    /// piece again. At most `lines_left` lines may be queued in the visit while the socket is full.
     pub(crate) fn begin_visit<S: System>(
         &mut self,
         system: &mut Logged<S>,
         anew: bool,
-        clock: u64,
         lines_left: u32,
     )
         requires { IsKept system.old.log.steps self.old }
@@ -191,7 +186,7 @@ impl Peer {
         ensures read { IsRead system.new.log.steps self.old.number }
         ensures ending { self.new.ending ≡ begun self.old.ending (is_over self.new.incoming self.new.input) }
         ensures share { self.new.share ≡ record self.old.share {
-          rest = cond (anew || is_silent clock self.old) MOST_IN_PIECE self.old.share.rest;
+          rest = cond anew MOST_IN_PIECE self.old.share.rest;
         } }
         ensures same { self.new ≡ record self.old {
           incoming = self.new.incoming;
@@ -203,7 +198,7 @@ impl Peer {
     {
         self.fill(system);
         self.lines_left = lines_left;
-        if anew || self.is_silent(clock) {
+        if anew {
             self.share.rest = MOST_IN_PIECE;
         }
         self.ending = self.ending.begin_visit(self.input.is_over(&self.incoming));
@@ -291,19 +286,12 @@ impl Peer {
         self.stay.is_here() && !self.backpressured && !self.incoming.is_empty()
     }
 
-    /// Returns whether the peer is silent: for `SILENCE` milliseconds nothing of the peer was handed out when the clock
-    /// shows `clock`.
-    pub fn is_silent(&self, clock: u64) -> bool
-        ensures { result ≡ is_silent clock self.now }
+    /// Returns whether it is the peer's turn before that of a peer whose last service has the number `served`: input of
+    /// the peer is held that the core takes, and the peer was served longer ago.
+    pub fn is_turn_before(&self, served: u64) -> bool
+        ensures { result ≡ is_turn_before served self.now }
     {
-        clock.saturating_sub(self.heard) >= SILENCE
-    }
-
-    /// Returns whether the peer has priority over peers that are not silent: the peer is silent, and holds input.
-    pub fn goes_first(&self, clock: u64) -> bool
-        ensures { result ≡ goes_first clock self.now }
-    {
-        self.is_silent(clock) && self.holds_input()
+        self.served < served && self.holds_input()
     }
 
     /// Returns whether bytes are queued that the socket may still take.

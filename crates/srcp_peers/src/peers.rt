@@ -37,13 +37,12 @@ pub fn flush<S: System>(system: &mut Logged<S>, peers: &mut [Peer], what: Flush)
     }
 }
 
-/// Begins the visit of each peer. The share is a whole piece again for each peer that is silent when the clock shows
-/// `clock`, and with `anew` for all peers. At most `lines_left` lines may be queued for each peer whose socket is full.
+/// Begins the visit of each peer. With `anew` each share is a whole piece again. At most `lines_left` lines may be
+/// queued for each peer whose socket is full.
 pub fn begin_visits<S: System>(
     system: &mut Logged<S>,
     peers: &mut [Peer],
     anew: bool,
-    clock: u64,
     lines_left: u32,
 )
     requires kept { AreKept system.old.log.steps peers.old }
@@ -56,12 +55,12 @@ pub fn begin_visits<S: System>(
     ensures times { KeepsTimes system.old.log.steps system.new.log.steps }
     ensures read { (k : ℕ) (d : Peer) → k < length peers.new
         → IsRead system.new.log.steps (slice_index_or peers.new k d).number }
-    ensures shares { AreShared anew clock peers.old peers.new }
+    ensures shares { AreShared anew peers.old peers.new }
     ensures begun { AreBegun peers.old peers.new }
     ensures lines_left { All (λ peer. peer.lines_left ≡ lines_left) peers.new }
 {
     for peer in peers.iter_mut() {
-        peer.begin_visit(system, anew, clock, lines_left);
+        peer.begin_visit(system, anew, lines_left);
     }
 }
 

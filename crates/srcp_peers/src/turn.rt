@@ -4,10 +4,10 @@ ghost use Rattle.std.specs.Prelude.{◌≡◌, ◌<◌, ◌≤◌, ◌-◌, ◌/
 ghost use Rattle.std.specs.Prelude.{IfErr, Result, cond, length, take, ◌↔◌, IsTrue, All, min};
 ghost use Rattle.srcp_door.specs.declared.door.DoorFault.{DoorFault};
 ghost use Rattle.srcp_door.specs.Calls.{ExpectCall, AcceptCall, WriteCall, CloseCall};
-ghost use Rattle.srcp_door.specs.Pacing.{Allows, IsShort, fits, keeps_back, line_after, share_after, weight_of};
+ghost use Rattle.srcp_door.specs.Pacing.{Allows, fits, is_short_pace, line_after, share_after, weight_of};
 ghost use Rattle.srcp_door.specs.declared.pacing.LineBoundary.{LineBoundary};
 ghost use Rattle.srcp_peers.specs.Turns.{after_call, after_read, after_wait, begun, earlier, ended, first_turn};
-ghost use Rattle.srcp_peers.specs.Turns.{handed_out, is_behind, is_pending, is_short, is_short_pace, shortfall};
+ghost use Rattle.srcp_peers.specs.Turns.{handed_out, is_behind, is_pending, is_short, shortfall};
 ghost use Rattle.srcp_peers.specs.Turns.{backpressure_delay, moment_at, own_pace};
 ghost use Rattle.srcp_peers.specs.Turns.{reports_end, time_left, reported_at, next_after, step_at, ticks};
 ghost use Rattle.std.specs.Option.{option_map};
@@ -19,7 +19,7 @@ ghost use Rattle.srcp_peers.specs.Waiting.{IsWithin, longest_wait, sooner};
 
 use crate::peer::Peer;
 use crate::system::IoFailure;
-use srcp_door::{Allowed, DoorFault, Got, MOST_WRITES, Pace, RESERVE, Share, Timekeeper};
+use srcp_door::{DoorFault, Got, MOST_WRITES, Pace, RESERVE, Share, Timekeeper};
 use srcp_grammar::MOST_CHANGES;
 
 /// The least step of the monotonic clock, in milliseconds.
@@ -260,10 +260,7 @@ impl Turn {
     pub fn is_slow(&self) -> bool
         ensures { result ≡ is_short_pace self.now.pace }
     {
-        match self.pace {
-            Pace::Paced { left } => left < MOST_CHANGES,
-            Pace::OneLine => true,
-        }
+        self.pace.is_short()
     }
 
     /// Returns the pace of a peer's lines. If the peer waits for others and not every line may be handed out, no line
@@ -280,17 +277,15 @@ impl Turn {
 
     /// Returns how many bytes of a peer's piece may be handed out now, by the peer's share of the lines. With
     /// `waits` the peer waits for others. Notes these bytes as handed out.
-    pub(crate) fn allow(&mut self, waits: bool, share: &mut Share, piece: &[u8]) -> Allowed
-        ensures within { result.count ≤ length piece.now }
-        ensures nothing { result.count ≡ 0 → self.new ≡ self.old }
-        ensures some { 0 < result.count → self.new ≡ handed_out self.old share.old.line (take result.count piece.now) }
-        ensures line { share.new.line ≡ line_after share.old.line (take result.count piece.now) }
-        ensures fits { fits self.old.pace (weight_of share.old.line (take result.count piece.now)) ≡ true }
-        ensures allows { Allows (own_pace waits self.old.pace) share.old piece.now result.count }
-        ensures share { share.new ≡ share_after share.old (take result.count piece.now) result.starved }
-        ensures back { result.starved
-            ≡ keeps_back (own_pace waits self.old.pace) share.old piece.now (take result.count piece.now) }
-        ensures fair { result.starved ≡ true → IsShort self.new.pace }
+    pub(crate) fn allow(&mut self, waits: bool, share: &mut Share, piece: &[u8]) -> usize
+        ensures within { result ≤ length piece.now }
+        ensures nothing { result ≡ 0 → self.new ≡ self.old }
+        ensures some { 0 < result → self.new ≡ handed_out self.old share.old.line (take result piece.now) }
+        ensures line { share.new.line ≡ line_after share.old.line (take result piece.now) }
+        ensures fits { fits self.old.pace (weight_of share.old.line (take result piece.now)) ≡ true }
+        ensures allows { Allows (own_pace waits self.old.pace) share.old piece.now result }
+        ensures own { fits (own_pace waits self.old.pace) (weight_of share.old.line (take result piece.now)) ≡ true }
+        ensures share { share.new ≡ share_after self.old.pace share.old (take result piece.now) }
     {
         let mut pace = self.own_pace(waits);
         let allowed = pace.allow(share, piece);
@@ -299,7 +294,7 @@ impl Turn {
         if allowed.weight > 0 {
             self.pace = pace;
         }
-        allowed
+        allowed.count
     }
 
     /// Returns what the clock has to show before it lets the next line through, after lines of this weight went at this

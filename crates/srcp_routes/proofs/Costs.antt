@@ -6,7 +6,7 @@ use Rattle.std.proofs.lemmas.Bool.{eqb-false, ltb-false, ltb-true}
 use Rattle.std.specs.Option.{option_map_or}
 use Rattle.std.specs.Prelude.{if◌then◌else◌, nat_lt, slice_get}
 use Rattle.srcp_routes.specs.Plan.{Table, stage_at, wanted_at}
-use Rattle.srcp_routes.specs.Stages.{after_reply, count_of, order_of, ready_stage}
+use Rattle.srcp_routes.specs.Stages.{after_reply, count_of, is_idle, order_of, ready_stage}
 use Rattle.srcp_routes.specs.declared.route.Order.{Order}
 use Rattle.srcp_routes.specs.declared.route.Route.{Route}
 use Rattle.srcp_routes.specs.declared.route.Signal.{Signal}
@@ -180,10 +180,20 @@ total_less f g (suc k) i lt one le = elim (eq-or-lt_of_le {n = i} {m = k} (omega
   | inr lower ↦ omega (arith, total_less f g k i lower one le, le k)
 ]
 
+-- what a route sends more that is asked for again before it ended
+abbrev pub extra : ℕ → Bool → ℕ
+extra count true = count + count + count + 5
+extra count false = 0
+
+pub idle_cost : (count : ℕ) (wanted : Bool) (s : Stage) → is_idle s ≡ true → cost count wanted s ≤ extra count true
+idle_cost count true stage.Idle h = omega arith
+idle_cost count false stage.Idle h = omega arith
+idle_cost count wanted other h = absurd (cc)
+
 -- what a route has to send, by its place
 abbrev pub cost_at : Table → ℕ → ℕ
-cost_at t n = option_map_or (λ (route : Route). cost (count_of route) (wanted_at t.wanted n) (stage_at t.stages n))
-    (slice_get t.routes n) 0
+cost_at t n = option_map_or (λ (route : Route). cost (count_of route) (wanted_at t.wanted n) (stage_at t.stages n)
+    + extra (count_of route) (wanted_at t.again n)) (slice_get t.routes n) 0
 
 abbrev pub work : Table → ℕ
 work t = total (cost_at t) (length t.routes)

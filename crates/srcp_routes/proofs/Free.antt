@@ -1,11 +1,11 @@
 -- A sensor that the table has as free was last told to be 0.
-use Rattle.std.proofs.Common.{◌≡◌, ◌⊎◌, inl, inr, ◌++◌, ◌==◌, ℕ, Bool, true, false, not, ◌&&◌, Option, Some, None, List, [], ◌∷◌}
+use Rattle.std.proofs.Common.{◌≡◌, ◌⊎◌, inl, inr, ◌++◌, ◌==◌, ℕ, Bool, true, false, ◌&&◌, Option, Some, None, List, [], ◌∷◌}
 use Rattle.std.proofs.Common.{refl, sym, ◌∙◌, subst}
 use Rattle.std.proofs.lemmas.Bool.{and_from, and_parts, eq-eqb, eqb-true, or_cases, or_from, or_left, or_right}
 use Rattle.std.proofs.lemmas.List.Folds.{list_any-append}
 use Rattle.std.specs.Option.{option_map_or}
 use Rattle.std.specs.Prelude.{if◌then◌else◌, is_some, map, option_to_list}
-use Rattle.srcp_routes.specs.Conflicts.{is_free, is_same, route_sensors, sensors_of, told_sensor, unknown}
+use Rattle.srcp_routes.specs.Conflicts.{is_free, is_same, is_vacant, route_sensors, sensors_of, told_sensor, unknown}
 use Rattle.srcp_routes.specs.Plan.{Table}
 use Rattle.srcp_routes.specs.Runs.{free_heard}
 use Rattle.srcp_routes.specs.Steps.{after, answered, due, heard, sent}
@@ -13,6 +13,7 @@ use Rattle.srcp_routes.specs.declared.conflict.Sensed.{Sensed}
 use Rattle.srcp_routes.specs.declared.interlocking.Event.{Event}
 use Rattle.srcp_routes.specs.declared.interlocking.Event.TheVariants.{Ask, Give, Told, Reply, Lost}
 use Rattle.srcp_routes.specs.declared.route.Device.{Device}
+use Rattle.srcp_routes.specs.declared.route.Occupancy.{Occupancy}
 use Rattle.srcp_routes.specs.declared.route.Route.{Route}
 use Rattle.srcp_routes.proofs.Locks.{same_back}
 
@@ -20,7 +21,7 @@ use Rattle.srcp_routes.proofs.Locks.{same_back}
 abbrev pub IsFreeRightly : List Sensed → (Device → Bool) → Type 0
 IsFreeRightly sensors free = (x : Device) → is_free sensors x ≡ true → free x ≡ true
 
-same_through : (x y z : Device) → is_same x y ≡ true → is_same y z ≡ true → is_same x z ≡ true
+pub same_through : (x y z : Device) → is_same x y ≡ true → is_same y z ≡ true → is_same x z ≡ true
 same_through x y z h g =
     let one : ((x.bus == y.bus) ≡ true) × ((x.address == y.address) ≡ true) =
     and_parts (x.bus == y.bus) (x.address == y.address) h in
@@ -31,37 +32,38 @@ same_through x y z h g =
     (eq-eqb x.address z.address (eqb-true x.address y.address one.1 ∙ eqb-true y.address z.address two.1))
 
 -- what is known of one sensor after a telling
-told_one : (known : Sensed) (sensor x : Device) (on here there : Bool) → is_same known.sensor sensor ≡ here
+told_one : (known : Sensed) (sensor x : Device) (now : Occupancy) (here there : Bool) → is_same known.sensor sensor ≡ here
     → is_same x sensor ≡ there
-    → ((if here then record known { is_free = not on } else known).is_free
-    && is_same (if here then record known { is_free = not on } else known).sensor x) ≡ true
-    → ((there ≡ true) × (not on ≡ true)) ⊎ ((there ≡ false) × ((known.is_free && is_same known.sensor x) ≡ true))
-told_one known sensor x on true true at is h = inl (refl, (and_parts (not on) (is_same known.sensor x) h).0)
-told_one known sensor x on true false at is h =
-    let both : (not on ≡ true) × (is_same known.sensor x ≡ true) = and_parts (not on) (is_same known.sensor x) h in
+    → (is_vacant (if here then record known { occupancy = now } else known).occupancy
+    && is_same (if here then record known { occupancy = now } else known).sensor x) ≡ true
+    → ((there ≡ true) × (is_vacant now ≡ true))
+    ⊎ ((there ≡ false) × ((is_vacant known.occupancy && is_same known.sensor x) ≡ true))
+told_one known sensor x now true true at is h = inl (refl, (and_parts (is_vacant now) (is_same known.sensor x) h).0)
+told_one known sensor x now true false at is h =
+    let both : (is_vacant now ≡ true) × (is_same known.sensor x ≡ true) = and_parts (is_vacant now) (is_same known.sensor x) h in
     let same : is_same x sensor ≡ true = same_through x known.sensor sensor (same_back known.sensor x both.1) at in
     absurd (cc)
-told_one known sensor x on false true at is h =
-    let both : (known.is_free ≡ true) × (is_same known.sensor x ≡ true) =
-    and_parts known.is_free (is_same known.sensor x) h in
+told_one known sensor x now false true at is h =
+    let both : (is_vacant known.occupancy ≡ true) × (is_same known.sensor x ≡ true) =
+    and_parts (is_vacant known.occupancy) (is_same known.sensor x) h in
     let same : is_same known.sensor sensor ≡ true = same_through known.sensor x sensor both.1 is in
     absurd (cc)
-told_one known sensor x on false false at is h = inr (refl, h)
+told_one known sensor x now false false at is h = inr (refl, h)
 
-told_free : (sensors : List Sensed) (sensor x : Device) (on there : Bool) → is_same x sensor ≡ there
-    → is_free (map (told_sensor sensor on) sensors) x ≡ true
-    → ((there ≡ true) × (not on ≡ true)) ⊎ ((there ≡ false) × (is_free sensors x ≡ true))
-told_free [] sensor x on there is h = absurd (cc)
-told_free (known ∷ sensors) sensor x on there is h =
-    elim (or_cases ((told_sensor sensor on known).is_free && is_same (told_sensor sensor on known).sensor x)
-    (is_free (map (told_sensor sensor on) sensors) x) h) [
-      | inl here ↦ elim (told_one known sensor x on (is_same known.sensor sensor) there refl is here) [
+told_free : (sensors : List Sensed) (sensor x : Device) (now : Occupancy) (there : Bool) → is_same x sensor ≡ there
+    → is_free (map (told_sensor sensor now) sensors) x ≡ true
+    → ((there ≡ true) × (is_vacant now ≡ true)) ⊎ ((there ≡ false) × (is_free sensors x ≡ true))
+told_free [] sensor x now there is h = absurd (cc)
+told_free (known ∷ sensors) sensor x now there is h =
+    elim (or_cases (is_vacant (told_sensor sensor now known).occupancy && is_same (told_sensor sensor now known).sensor x)
+    (is_free (map (told_sensor sensor now) sensors) x) h) [
+      | inl here ↦ elim (told_one known sensor x now (is_same known.sensor sensor) there refl is here) [
         | inl p ↦ inl p
-        | inr p ↦ inr (p.0, or_left (known.is_free && is_same known.sensor x) (is_free sensors x) p.1)
+        | inr p ↦ inr (p.0, or_left (is_vacant known.occupancy && is_same known.sensor x) (is_free sensors x) p.1)
       ]
-      | inr later ↦ elim (told_free sensors sensor x on there is later) [
+      | inr later ↦ elim (told_free sensors sensor x now there is later) [
         | inl p ↦ inl p
-        | inr p ↦ inr (p.0, or_right (known.is_free && is_same known.sensor x) (is_free sensors x) p.1)
+        | inr p ↦ inr (p.0, or_right (is_vacant known.occupancy && is_same known.sensor x) (is_free sensors x) p.1)
       ]
     ]
 
@@ -72,7 +74,7 @@ if_told true x y P (inr p) so = absurd (cc)
 if_told false x y P (inl p) so = absurd (cc)
 if_told false x y P (inr p) so = so p.1
 
-answer_sensors : (t : Table) (ok : Bool) (x : Option ℕ) → (option_map_or (answered t ok) x t).sensors ≡ t.sensors
+pub answer_sensors : (t : Table) (ok : Bool) (x : Option ℕ) → (option_map_or (answered t ok) x t).sensors ≡ t.sensors
 answer_sensors t ok None = refl
 answer_sensors t ok (Some n) = refl
 
@@ -84,8 +86,8 @@ pub heard_free : (t : Table) (event : Event) (free : Device → Bool) → IsFree
     → IsFreeRightly (heard t event).sensors (free_heard free event)
 heard_free t (Ask n) free all = all
 heard_free t (Give n) free all = all
-heard_free t (Told sensor on) free all = λ x h. if_told (is_same x sensor) (not on) (free x) (is_free t.sensors x ≡ true)
-    (told_free t.sensors sensor x on (is_same x sensor) refl h) (all x)
+heard_free t (Told sensor now) free all = λ x h. if_told (is_same x sensor) (is_vacant now) (free x) (is_free t.sensors x ≡ true)
+    (told_free t.sensors sensor x now (is_same x sensor) refl h) (all x)
 heard_free t (Reply ok) free all = as_before t.sensors _ free (answer_sensors t ok t.waiting) all
 heard_free t Lost free all = all
 

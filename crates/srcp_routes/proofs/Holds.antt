@@ -3,7 +3,7 @@ use Rattle.std.proofs.Common.{◌≡◌, true, false, List, [], ◌∷◌, refl}
 use Rattle.std.specs.Prelude.{fold, is_some, map}
 use Rattle.srcp_routes.specs.Laws.{AreApart}
 use Rattle.srcp_routes.specs.Plan.{stage_at}
-use Rattle.srcp_routes.specs.Runs.{Run, granted, has_signal, heard_of, put, run, run_after, run_start, stopped}
+use Rattle.srcp_routes.specs.Runs.{Run, granted, has_signal, heard_of, lit, put, run, run_after, run_start, stopped}
 use Rattle.srcp_routes.specs.Stages.{is_held, lost_stage}
 use Rattle.srcp_routes.specs.Steps.{due, heard}
 use Rattle.srcp_routes.specs.declared.interlocking.Event.{Event}
@@ -14,6 +14,7 @@ use Rattle.srcp_routes.proofs.Locks.{AllLocked, heard_locked, locks_held, next_l
 use Rattle.srcp_routes.proofs.Pending.{Fits, Pends, after_fits, heard_fits, start_fits, step_pends}
 use Rattle.srcp_routes.proofs.Signals.{AllGo, heard_may_go, heard_shown, next_goes, start_may_go}
 use Rattle.srcp_routes.proofs.Thrown.{AllThrown, heard_thrown, start_thrown}
+use Rattle.srcp_routes.proofs.Told.{AllLit, heard_lit, next_lit, start_lit}
 use Rattle.srcp_routes.proofs.Touched.{next_thrown}
 
 pub record Holds (routes : List Route) (r : Run) : Type 0 where
@@ -23,10 +24,11 @@ pub record Holds (routes : List Route) (r : Run) : Type 0 where
   pub locked : AllLocked r.table.routes r.table.stages r.locked
   pub thrown : AllThrown r.table.routes r.table.stages r.thrown
   pub shown : AllGo false r.table.routes r.table.stages r.shown
+  pub lit : AllLit r.table.routes r.table.stages r.lit
   pub may_go : AllGo true r.table.routes r.table.stages r.may_go
   pub free : IsFreeRightly r.table.sensors r.free
 
-after_holds : (routes : List Route) (r : Run) (event : Event) → Holds routes r → Holds routes (run_after r event)
+pub after_holds : (routes : List Route) (r : Run) (event : Event) → Holds routes r → Holds routes (run_after r event)
 after_holds routes r event holds = record {
   fits = after_fits routes r.table event holds.fits;
   apart = after_apart r.table event holds.apart;
@@ -42,13 +44,16 @@ after_holds routes r event holds = record {
   shown = next_goes false routes (heard r.table event) (heard_of stopped (λ m. false) r.shown r event)
       (is_some (heard r.table event).waiting) (due (heard r.table event)) (heard_fits routes r.table event holds.fits) refl
       (heard_shown r event holds.pends holds.shown);
+  lit = next_lit routes (heard r.table event) (heard_of lit (λ m. false) r.lit r event)
+      (is_some (heard r.table event).waiting) (due (heard r.table event)) (heard_fits routes r.table event holds.fits)
+      (heard_lit routes r event holds.fits holds.pends holds.lit);
   may_go = next_goes true routes (heard r.table event) (heard_of stopped (has_signal r.table.routes) r.may_go r event)
       (is_some (heard r.table event).waiting) (due (heard r.table event)) (heard_fits routes r.table event holds.fits) refl
       (heard_may_go r event holds.pends holds.may_go);
   free = after_free r.table event r.free holds.free;
 }
 
-start_holds : (routes : List Route) → Holds routes (run_start routes)
+pub start_holds : (routes : List Route) → Holds routes (run_start routes)
 start_holds routes = record {
   fits = start_fits routes;
   apart = start_apart routes;
@@ -59,6 +64,7 @@ start_holds routes = record {
       absurd (cc);
   thrown = start_thrown routes;
   shown = λ n route is h. absurd (cc);
+  lit = start_lit routes;
   may_go = start_may_go routes;
   free = start_free routes;
 }

@@ -1,12 +1,12 @@
 -- Once no order waits for its reply, each route that is asked for is set, or waits for a reason.
-use Rattle.std.proofs.Common.{◌≡◌, ◌≢◌, ◌⊎◌, inl, inr, ℕ, zero, suc, ◌-◌, ◌==◌, ◌<◌, ◌≤◌, Bool, true, false, not, ◌&&◌, ◌||◌}
+use Rattle.std.proofs.Common.{◌≡◌, ◌≢◌, inl, inr, ℕ, zero, suc, ◌-◌, ◌==◌, ◌<◌, ◌≤◌, Bool, true, false, not, ◌&&◌, ◌||◌}
 use Rattle.std.proofs.Common.{Option, Some, None, List, [], ◌∷◌, length, refl, sym, ◌∙◌, ap, arith, subst}
-use Rattle.std.proofs.lemmas.Bool.{and_parts, eqb-false, eqb-true, not-true}
+use Rattle.std.proofs.lemmas.Bool.{and_parts, eqb-false, eqb-true, not-true, or_cases}
 use Rattle.std.proofs.lemmas.Option.{slice_get_within}
 use Rattle.std.specs.Option.{option_and_then, option_map, option_map_or}
 use Rattle.std.specs.Prelude.{if◌then◌else◌, is_some, slice_get}
 use Rattle.srcp_routes.specs.Conflicts.{are_free}
-use Rattle.srcp_routes.specs.Laws.{IsBehind, IsServed, WantedAreServed, is_unstopped, stays}
+use Rattle.srcp_routes.specs.Laws.{IsBehind, IsServed, WantedAreServed, is_asked, is_unstopped, stays}
 use Rattle.srcp_routes.specs.Plan.{Table, conflict_at, is_clear, lets, stage_at, wanted_at}
 use Rattle.srcp_routes.specs.Stages.{count_of, is_idle, order_of, ready_stage, turnout_at}
 use Rattle.srcp_routes.specs.Steps.{after, course, due, heard, may_begin, order_at, sent}
@@ -18,9 +18,11 @@ use Rattle.srcp_routes.specs.declared.route.Setting.{Setting}
 use Rattle.srcp_routes.specs.declared.route.Signal.{Signal}
 use Rattle.srcp_routes.specs.declared.stage.Stage.{Stage}
 use Rattle.srcp_routes.specs.declared.stage.Stage.TheVariants as stage
+use Rattle.srcp_routes.proofs.Again.{AllBusy, heard_busy}
 use Rattle.srcp_routes.proofs.Loops.{Fails, fails_below, none_found}
 use Rattle.srcp_routes.proofs.Pending.{Fits, heard_fits}
-use Rattle.srcp_routes.proofs.Well.{AllSent, AllWell, IsSound, below, course_sound, fresh, heard_sent, heard_well, well}
+use Rattle.srcp_routes.proofs.Sound.{IsSound, course_sound}
+use Rattle.srcp_routes.proofs.Well.{AllSent, AllWell, below, fresh, heard_sent, heard_well, well}
 
 -- at this stage a route has no order to send
 abbrev pub rests : Bool → Bool → Bool → Stage → Bool
@@ -136,6 +138,7 @@ pub record IsResting (routes : List Route) (t : Table) : Type 0 where
   pub fits : Fits routes t
   pub well : AllWell t.routes t.stages
   pub sent : AllSent t.stages t.waiting
+  pub busy : AllBusy t.stages t.again
   pub waits : t.waiting ≡ None
   pub due : due t ≡ None
 
@@ -144,7 +147,7 @@ pub not_fresh : (stages : List Stage) (waiting : Option ℕ) (n : ℕ) (f : Bool
 not_fresh stages waiting n true is waits all = let both : None ≡ Some n = sym waits ∙ all n is in absurd (cc)
 not_fresh stages waiting n false is waits all = refl
 
-rests_at : (routes : List Route) (t : Table) (n : ℕ) (route : Route) → IsResting routes t
+pub rests_at : (routes : List Route) (t : Table) (n : ℕ) (route : Route) → IsResting routes t
     → slice_get t.routes n ≡ Some route
     → rests (wanted_at t.wanted n) (are_free t.sensors route.blocks.items)
     (may_begin t n (are_free t.sensors route.blocks.items)) (stage_at t.stages n) ≡ true
@@ -158,7 +161,7 @@ rests_at routes t n route resting is =
     (none_found (λ n. is_some (order_at t n)) 0 (length t.routes) n (omega arith)
     (omega (arith, slice_get_within t.routes n route is)) resting.due))
 
-stays_of : (wanted free begins : Bool) (s : Stage) → rests wanted free begins s ≡ true → is_idle s ≡ false
+pub stays_of : (wanted free begins : Bool) (s : Stage) → rests wanted free begins s ≡ true → is_idle s ≡ false
     → stays wanted s ≡ true
 stays_of wanted free begins stage.Idle rest busy = absurd (cc)
 stays_of true free begins stage.Ready rest busy = refl
@@ -217,12 +220,38 @@ served_of routes t n route wanted free begins stage.Stuck resting is wants block
     inr (inr (inl (ap is_unstopped is)))
 served_of routes t n route wanted free begins other resting is wants blocks may rest = absurd (cc)
 
-pub resting_served : (routes : List Route) (t : Table) (n : ℕ) (route : Route) → IsResting routes t
+wanted_served : (routes : List Route) (t : Table) (n : ℕ) (route : Route) → IsResting routes t
     → slice_get t.routes n ≡ Some route → wanted_at t.wanted n ≡ true → IsServed t.routes t n route
-resting_served routes t n route resting is wants =
+wanted_served routes t n route resting is wants =
     served_of routes t n route (wanted_at t.wanted n) (are_free t.sensors route.blocks.items)
     (may_begin t n (are_free t.sensors route.blocks.items)) (stage_at t.stages n) resting refl wants refl refl
     (rests_at routes t n route resting is)
+
+-- a route that was given back, and could not end
+pub stays_back : (s : Stage) → stays false s ≡ true → is_unstopped s ≡ true
+stays_back stage.Set h = absurd (cc)
+stays_back stage.Ready h = absurd (cc)
+stays_back other h = h
+
+-- a route that is asked for again before it ended waits for its signal
+again_served : (routes : List Route) (t : Table) (n : ℕ) (route : Route) (wanted : Bool) → IsResting routes t
+    → slice_get t.routes n ≡ Some route → wanted_at t.wanted n ≡ wanted → wanted_at t.again n ≡ true
+    → IsServed t.routes t n route
+again_served routes t n route true resting is wants again = wanted_served routes t n route resting is wants
+again_served routes t n route false resting is wants again =
+    let rest : stays (wanted_at t.wanted n) (stage_at t.stages n) ≡ true =
+    stays_of (wanted_at t.wanted n) (are_free t.sensors route.blocks.items)
+    (may_begin t n (are_free t.sensors route.blocks.items)) (stage_at t.stages n) (rests_at routes t n route resting is)
+    (resting.busy n again) in
+    inr (inr (inl (stays_back (stage_at t.stages n)
+    (subst (λ (w : Bool). stays w (stage_at t.stages n) ≡ true) wants rest))))
+
+pub resting_served : (routes : List Route) (t : Table) (n : ℕ) (route : Route) → IsResting routes t
+    → slice_get t.routes n ≡ Some route → is_asked t n ≡ true → IsServed t.routes t n route
+resting_served routes t n route resting is asks = elim (or_cases (wanted_at t.wanted n) (wanted_at t.again n) asks) [
+  | inl wants ↦ wanted_served routes t n route resting is wants
+  | inr again ↦ again_served routes t n route (wanted_at t.wanted n) resting is refl again
+]
 
 -- a table in which no order waits after a step is at rest
 heard_resting : (routes : List Route) (t : Table) (event : Event) → IsSound routes t → (heard t event).waiting ≡ None
@@ -231,6 +260,7 @@ heard_resting routes t event sound waits none = record {
   fits = heard_fits routes t event sound.fits;
   well = heard_well t event sound.well;
   sent = heard_sent routes t sound.last event sound.fits sound.pends sound.sent;
+  busy = heard_busy t event sound.busy;
   waits = waits;
   due = none;
 }
@@ -249,7 +279,7 @@ after_resting routes t event sound none = next_resting routes (heard t event) (h
     refl refl (heard_resting routes t event sound) none
 
 in_plan : (routes : List Route) (t : Table) (n : ℕ) (route : Route) → IsResting routes t → slice_get routes n ≡ Some route
-    → wanted_at t.wanted n ≡ true → IsServed routes t n route
+    → is_asked t n ≡ true → IsServed routes t n route
 in_plan routes t n route resting is wants = subst (λ (x : List Route). IsServed x t n route) resting.fits.plan
     (resting_served routes t n route resting (ap (λ (x : List Route). slice_get x n) resting.fits.plan ∙ is) wants)
 

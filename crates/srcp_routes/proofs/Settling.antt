@@ -1,5 +1,5 @@
 -- With each reply the routes have one order less to send, until none waits.
-use Rattle.std.proofs.Common.{◌≡◌, ◌≢◌, ◌⊎◌, inl, inr, ℕ, zero, suc, ◌+◌, ◌<◌, ◌≤◌, Bool, true, false, ◌&&◌}
+use Rattle.std.proofs.Common.{◌≡◌, ◌≢◌, ◌⊎◌, inl, inr, ℕ, ◌+◌, ◌<◌, ◌≤◌, Bool, true, false, ◌&&◌}
 use Rattle.std.proofs.Common.{Option, Some, None, List, [], ◌∷◌, length, refl, sym, ◌∙◌, ap, arith, subst}
 use Rattle.std.proofs.lemmas.Bool.{and_parts, cases_eq}
 use Rattle.std.proofs.lemmas.Option.{slice_get_within}
@@ -9,55 +9,73 @@ use Rattle.srcp_routes.specs.Conflicts.{are_free}
 use Rattle.srcp_routes.specs.Laws.{RepliesSettle}
 use Rattle.srcp_routes.specs.Plan.{Table, is_clear, stage_at, wanted_at}
 use Rattle.srcp_routes.specs.Stages.{after_reply, count_of, is_idle, order_of, ready_stage}
-use Rattle.srcp_routes.specs.Steps.{after, answered, course, due, heard, may_begin, ready_at, sent, stage_replied}
+use Rattle.srcp_routes.specs.Steps.{after, again_after, answered, course, due, heard, is_renewed, may_begin, ready_at, sent}
+use Rattle.srcp_routes.specs.Steps.{stage_replied, wanted_after}
 use Rattle.srcp_routes.specs.declared.interlocking.Event.TheVariants.{Reply}
 use Rattle.srcp_routes.specs.declared.route.Order.{Order}
 use Rattle.srcp_routes.specs.declared.route.Route.{Route}
 use Rattle.srcp_routes.specs.declared.stage.Stage.{Stage}
 use Rattle.srcp_routes.specs.declared.stage.Stage.TheVariants as stage
+use Rattle.srcp_routes.proofs.Again.{after_else, wanted_off}
 use Rattle.srcp_routes.proofs.Apart.{stage_at-set, stage_at-set_same}
-use Rattle.srcp_routes.proofs.Costs.{accepted_cost, cost, cost_at, ready_cost, refused_cost, total_le, total_less, work}
+use Rattle.srcp_routes.proofs.Costs.{accepted_cost, cost, cost_at, extra, idle_cost, ready_cost, refused_cost, total_le}
+use Rattle.srcp_routes.proofs.Costs.{total_less, work}
 use Rattle.srcp_routes.proofs.Pending.{Fits, Pends, PendsAt, heard_fits}
 use Rattle.srcp_routes.proofs.Rest.{IsResting, after_resting, not_fresh}
-use Rattle.srcp_routes.proofs.Well.{AllSent, AllWell, IsSound, after_sound, course_sound, fresh, heard_sent, heard_well, well}
-
--- what is asked for after one route is not
-wanted_off : (wanted : List Bool) (k : ℕ) → wanted_at (slice_set wanted k false) k ≡ false
-wanted_off [] k = refl
-wanted_off (x ∷ xs) zero = refl
-wanted_off (x ∷ xs) (suc k) = wanted_off xs k
-
-wanted_else : (wanted : List Bool) (k n : ℕ) (b : Bool) → n ≢ k → wanted_at (slice_set wanted k b) n ≡ wanted_at wanted n
-wanted_else [] k n b differ = refl
-wanted_else (x ∷ xs) zero zero b differ = absurd (differ refl)
-wanted_else (x ∷ xs) zero (suc n) b differ = refl
-wanted_else (x ∷ xs) (suc k) zero b differ = refl
-wanted_else (x ∷ xs) (suc k) (suc n) b differ = wanted_else xs k n b (λ e. differ (ap suc e))
+use Rattle.srcp_routes.proofs.Sound.{IsSound, after_sound, course_sound}
+use Rattle.srcp_routes.proofs.Well.{AllSent, AllWell, fresh, heard_sent, heard_well, well}
 
 stage_else : (stages : List Stage) (k n : ℕ) (s : Stage) → n ≢ k → stage_at (slice_set stages k s) n ≡ stage_at stages n
 stage_else stages k n s differ = elim (stage_at-set stages k s n) [ inl p ↦ absurd (differ p.0) | inr e ↦ e ]
 
--- the cost of a route by its wanted and its stage
-abbrev cost_by : Option Route → Bool → Stage → ℕ
-cost_by x wanted s = option_map_or (λ (route : Route). cost (count_of route) wanted s) x 0
+-- the cost of a route by what is asked for and its stage
+abbrev cost_by : Option Route → (wanted again : Bool) → Stage → ℕ
+cost_by x wanted again s = option_map_or (λ (route : Route). cost (count_of route) wanted s + extra (count_of route) again) x 0
 
--- what is asked for after a reply
-abbrev wanted_after : Table → Bool → ℕ → List Bool
-wanted_after t ok n = if ok then t.wanted else slice_set t.wanted n false
-
-wanted_after_else : (t : Table) (ok : Bool) (k n : ℕ) → n ≢ k → wanted_at (wanted_after t ok k) n ≡ wanted_at t.wanted n
-wanted_after_else t true k n differ = refl
-wanted_after_else t false k n differ = wanted_else t.wanted k n false differ
-
-reply_cost : (t : Table) (route : Route) (o : Order) (ok : Bool) (n : ℕ) → order_of route (stage_at t.stages n) ≡ Some o
-    → well route (stage_at t.stages n) ≡ true
-    → cost (count_of route) (wanted_at (wanted_after t ok n) n) (after_reply route (stage_at t.stages n) ok) + 1
-    ≤ cost (count_of route) (wanted_at t.wanted n) (stage_at t.stages n)
-reply_cost t route o true n orders good = accepted_cost route (wanted_at t.wanted n) (stage_at t.stages n) o orders good
-reply_cost t route o false n orders good =
+reply_cost_of : (t : Table) (route : Route) (o : Order) (ok renewed idle again : Bool) (n : ℕ)
+    → order_of route (stage_at t.stages n) ≡ Some o → well route (stage_at t.stages n) ≡ true
+    → is_idle (after_reply route (stage_at t.stages n) ok) ≡ idle → wanted_at t.again n ≡ again
+    → (ok && (idle && again)) ≡ renewed
+    → cost (count_of route) (wanted_at (if renewed then slice_set t.wanted n true
+    else (if ok then t.wanted else slice_set t.wanted n false)) n) (after_reply route (stage_at t.stages n) ok)
+    + extra (count_of route) (wanted_at (if renewed then slice_set t.again n false
+    else (if ok then t.again else slice_set t.again n false)) n) + 1
+    ≤ cost (count_of route) (wanted_at t.wanted n) (stage_at t.stages n) + extra (count_of route) (wanted_at t.again n)
+reply_cost_of t route o true true true true n orders good is asks renews =
+    let off : extra (count_of route) (wanted_at (slice_set t.again n false) n) ≡ 0 =
+    ap (extra (count_of route)) (wanted_off t.again n) in
+    let more : extra (count_of route) (wanted_at t.again n) ≡ extra (count_of route) true = ap (extra (count_of route)) asks in
+    omega (
+      arith,
+      off,
+      more,
+      accepted_cost route (wanted_at t.wanted n) (stage_at t.stages n) o orders good,
+      idle_cost (count_of route) (wanted_at (slice_set t.wanted n true) n) (after_reply route (stage_at t.stages n) true) is,
+    )
+reply_cost_of t route o true false idle again n orders good is asks renews =
+    omega (arith, accepted_cost route (wanted_at t.wanted n) (stage_at t.stages n) o orders good)
+reply_cost_of t route o false false idle again n orders good is asks renews =
+    let off : extra (count_of route) (wanted_at (slice_set t.again n false) n) ≡ 0 =
+    ap (extra (count_of route)) (wanted_off t.again n) in
+    let less : cost (count_of route) (wanted_at (slice_set t.wanted n false) n) (after_reply route (stage_at t.stages n) false)
+    + 1 ≤ cost (count_of route) (wanted_at t.wanted n) (stage_at t.stages n) =
     subst (λ (w : Bool). cost (count_of route) w (after_reply route (stage_at t.stages n) false) + 1
     ≤ cost (count_of route) (wanted_at t.wanted n) (stage_at t.stages n)) (sym (wanted_off t.wanted n))
-    (refused_cost route (wanted_at t.wanted n) (stage_at t.stages n) o orders good)
+    (refused_cost route (wanted_at t.wanted n) (stage_at t.stages n) o orders good) in
+    omega (arith, off, less)
+reply_cost_of t route o true true false again n orders good is asks renews = absurd (cc)
+reply_cost_of t route o true true true false n orders good is asks renews = absurd (cc)
+reply_cost_of t route o false true idle again n orders good is asks renews = absurd (cc)
+
+reply_cost : (t : Table) (route : Route) (o : Order) (ok : Bool) (n : ℕ) → slice_get t.routes n ≡ Some route
+    → order_of route (stage_at t.stages n) ≡ Some o → well route (stage_at t.stages n) ≡ true
+    → cost (count_of route) (wanted_at (wanted_after t ok n) n) (after_reply route (stage_at t.stages n) ok)
+    + extra (count_of route) (wanted_at (again_after t ok n) n) + 1
+    ≤ cost (count_of route) (wanted_at t.wanted n) (stage_at t.stages n) + extra (count_of route) (wanted_at t.again n)
+reply_cost t route o ok n is orders good = reply_cost_of t route o ok (is_renewed t ok n)
+    (is_idle (after_reply route (stage_at t.stages n) ok)) (wanted_at t.again n) n orders good refl refl
+    (ap (λ (x : Option Route). ok && (is_idle (option_map_or (λ (a : Route). after_reply a (stage_at t.stages n) ok) x
+    stage.Idle) && wanted_at t.again n)) (sym is))
 
 -- the route whose reply came has less to send
 replied_less : (routes : List Route) (t : Table) (last : Option Order) (ok : Bool) (n : ℕ) → Fits routes t
@@ -69,19 +87,26 @@ replied_less routes t last ok n fits good pends =
     stage_at-set_same t.stages n (stage_replied t n ok) within
     ∙ ap (λ (x : Option Route). option_map_or (λ (a : Route). after_reply a (stage_at t.stages n) ok) x stage.Idle) pends.is in
     let one : cost_at (answered t ok n) n
-    ≡ cost (count_of pends.route) (wanted_at (wanted_after t ok n) n) (after_reply pends.route (stage_at t.stages n) ok) =
-    ap (λ (x : Option Route). cost_by x (wanted_at (wanted_after t ok n) n)
+    ≡ cost (count_of pends.route) (wanted_at (wanted_after t ok n) n) (after_reply pends.route (stage_at t.stages n) ok)
+    + extra (count_of pends.route) (wanted_at (again_after t ok n) n) =
+    ap (λ (x : Option Route). cost_by x (wanted_at (wanted_after t ok n) n) (wanted_at (again_after t ok n) n)
     (stage_at (slice_set t.stages n (stage_replied t n ok)) n)) pends.is
-    ∙ ap (cost (count_of pends.route) (wanted_at (wanted_after t ok n) n)) now in
-    let two : cost_at t n ≡ cost (count_of pends.route) (wanted_at t.wanted n) (stage_at t.stages n) =
-    ap (λ (x : Option Route). cost_by x (wanted_at t.wanted n) (stage_at t.stages n)) pends.is in
-    let less : cost (count_of pends.route) (wanted_at (wanted_after t ok n) n) (after_reply pends.route (stage_at t.stages n) ok) + 1
-    ≤ cost (count_of pends.route) (wanted_at t.wanted n) (stage_at t.stages n) =
-    reply_cost t pends.route pends.order ok n pends.orders (good n pends.route pends.is) in
+    ∙ ap (λ (s : Stage). cost (count_of pends.route) (wanted_at (wanted_after t ok n) n) s
+    + extra (count_of pends.route) (wanted_at (again_after t ok n) n)) now in
+    let two : cost_at t n ≡ cost (count_of pends.route) (wanted_at t.wanted n) (stage_at t.stages n)
+    + extra (count_of pends.route) (wanted_at t.again n) =
+    ap (λ (x : Option Route). cost_by x (wanted_at t.wanted n) (wanted_at t.again n) (stage_at t.stages n)) pends.is in
+    let less : cost (count_of pends.route) (wanted_at (wanted_after t ok n) n)
+    (after_reply pends.route (stage_at t.stages n) ok)
+    + extra (count_of pends.route) (wanted_at (again_after t ok n) n) + 1
+    ≤ cost (count_of pends.route) (wanted_at t.wanted n) (stage_at t.stages n)
+    + extra (count_of pends.route) (wanted_at t.again n) =
+    reply_cost t pends.route pends.order ok n pends.is pends.orders (good n pends.route pends.is) in
     omega (arith, one, two, less)
 
-same_cost : (x : Option Route) (w v : Bool) (s z : Stage) → w ≡ v → s ≡ z → cost_by x w s ≡ cost_by x v z
-same_cost x w v s z e d = ap (λ (y : Bool). cost_by x y s) e ∙ ap (cost_by x v) d
+same_cost : (x : Option Route) (w v a b : Bool) (s z : Stage) → w ≡ v → a ≡ b → s ≡ z → cost_by x w a s ≡ cost_by x v b z
+same_cost x w v a b s z e c d =
+    ap (λ (y : Bool). cost_by x y a s) e ∙ ap (λ (y : Bool). cost_by x v y s) c ∙ ap (cost_by x v b) d
 
 replied_le_of : (t : Table) (ok : Bool) (k n : ℕ) → (n ≡ k) ⊎ (n ≢ k)
     → cost_at (answered t ok k) k + 1 ≤ cost_at t k → cost_at (answered t ok k) n ≤ cost_at t n
@@ -90,8 +115,11 @@ replied_le_of t ok k n (inl same) less =
 replied_le_of t ok k n (inr differ) less =
     let one : cost_at (answered t ok k) n ≡ cost_at t n =
     same_cost (slice_get t.routes n) (wanted_at (wanted_after t ok k) n) (wanted_at t.wanted n)
+    (wanted_at (again_after t ok k) n) (wanted_at t.again n)
     (stage_at (slice_set t.stages k (stage_replied t k ok)) n) (stage_at t.stages n)
-    (wanted_after_else t ok k n differ) (stage_else t.stages k n (stage_replied t k ok) differ) in
+    (after_else t.wanted (is_renewed t ok k) ok true k n differ)
+    (after_else t.again (is_renewed t ok k) ok false k n differ)
+    (stage_else t.stages k n (stage_replied t k ok) differ) in
     omega (arith, one)
 
 replied_work : (routes : List Route) (t : Table) (last : Option Order) (ok : Bool) (n : ℕ) → Fits routes t
@@ -130,15 +158,18 @@ sent_table t k = record t { stages = slice_set t.stages k (ready_at t k); waitin
 
 sent_le_here : (routes : List Route) (t : Table) (n : ℕ) (x : Option Route) → Fits routes t → AllWell t.routes t.stages
     → AllSent t.stages t.waiting → t.waiting ≡ None → slice_get t.routes n ≡ x
-    → cost_by x (wanted_at t.wanted n) (stage_at (slice_set t.stages n (ready_at t n)) n)
-    ≤ cost_by x (wanted_at t.wanted n) (stage_at t.stages n)
+    → cost_by x (wanted_at t.wanted n) (wanted_at t.again n) (stage_at (slice_set t.stages n (ready_at t n)) n)
+    ≤ cost_by x (wanted_at t.wanted n) (wanted_at t.again n) (stage_at t.stages n)
 sent_le_here routes t n None fits good all waits is = omega arith
 sent_le_here routes t n (Some route) fits good all waits is =
     let within : n < length t.stages =
     omega (arith, slice_get_within t.routes n route is, fits.stages, ap length fits.plan) in
+    let le : cost (count_of route) (wanted_at t.wanted n) (stage_at (slice_set t.stages n (ready_at t n)) n)
+    ≤ cost (count_of route) (wanted_at t.wanted n) (stage_at t.stages n) =
     subst (λ (s : Stage). cost (count_of route) (wanted_at t.wanted n) s
     ≤ cost (count_of route) (wanted_at t.wanted n) (stage_at t.stages n))
-    (sym (stage_at-set_same t.stages n (ready_at t n) within)) (sent_le_some t n route good all waits is)
+    (sym (stage_at-set_same t.stages n (ready_at t n) within)) (sent_le_some t n route good all waits is) in
+    omega (arith, le)
 
 sent_le_of : (routes : List Route) (t : Table) (k n : ℕ) → (n ≡ k) ⊎ (n ≢ k) → Fits routes t → AllWell t.routes t.stages
     → AllSent t.stages t.waiting → t.waiting ≡ None → cost_at (sent_table t k) n ≤ cost_at t n
@@ -147,8 +178,8 @@ sent_le_of routes t k n (inl same) fits good all waits =
     (sent_le_here routes t k (slice_get t.routes k) fits good all waits refl)
 sent_le_of routes t k n (inr differ) fits good all waits =
     let one : cost_at (sent_table t k) n ≡ cost_at t n =
-    same_cost (slice_get t.routes n) (wanted_at t.wanted n) (wanted_at t.wanted n)
-    (stage_at (slice_set t.stages k (ready_at t k)) n) (stage_at t.stages n) refl
+    same_cost (slice_get t.routes n) (wanted_at t.wanted n) (wanted_at t.wanted n) (wanted_at t.again n)
+    (wanted_at t.again n) (stage_at (slice_set t.stages k (ready_at t k)) n) (stage_at t.stages n) refl refl
     (stage_else t.stages k n (ready_at t k) differ) in
     omega (arith, one)
 

@@ -5,10 +5,11 @@ use Rattle.std.proofs.lemmas.Bool.{and_parts, cases_eq}
 use Rattle.std.specs.Option.{option_map_or}
 use Rattle.std.specs.Prelude.{if◌then◌else◌, is_some, slice_get}
 use Rattle.srcp_routes.specs.Conflicts.{are_free, is_free, is_same}
-use Rattle.srcp_routes.specs.Laws.{IsShownRightly, IsThrownAndLocked, ShownAreKept, ShownStand, ShowsAreFree, touched}
+use Rattle.srcp_routes.specs.Laws.{IsShownRightly, IsThrownAndLocked, IsToldRightly, SetIsTold, ShownAreKept, ShownStand}
+use Rattle.srcp_routes.specs.Laws.{ShowsAreFree, touched}
 use Rattle.srcp_routes.specs.Plan.{Table, is_clear, stage_at, wanted_at}
 use Rattle.srcp_routes.specs.Runs.{Run, run, run_after}
-use Rattle.srcp_routes.specs.Stages.{is_idle, ready_stage, turnout_at}
+use Rattle.srcp_routes.specs.Stages.{is_idle, order_of, ready_stage, turnout_at}
 use Rattle.srcp_routes.specs.Steps.{due, heard, may_begin, ready_at, sent}
 use Rattle.srcp_routes.specs.declared.interlocking.Event.{Event}
 use Rattle.srcp_routes.specs.declared.route.Device.{Device}
@@ -22,10 +23,11 @@ use Rattle.srcp_routes.specs.declared.stage.Stage.TheVariants as stage
 use Rattle.srcp_routes.proofs.Free.{heard_free}
 use Rattle.srcp_routes.proofs.Holds.{Holds, run_holds}
 use Rattle.srcp_routes.proofs.Locks.{has_lock}
-use Rattle.srcp_routes.proofs.Pending.{Fits, Pends, Sends, due_sends, heard_fits}
+use Rattle.srcp_routes.proofs.Pending.{Fits, Pends, PendsAt, Sends, due_sends, heard_fits}
 use Rattle.srcp_routes.proofs.Signals.{GoesAt, Shows, shows}
 use Rattle.srcp_routes.proofs.Thrown.{has_thrown}
-use Rattle.srcp_routes.proofs.Touched.{Touches, goes, touch_other, touches}
+use Rattle.srcp_routes.proofs.Told.{is_told}
+use Rattle.srcp_routes.proofs.Touched.{Touches, goes, no_order, touch_other, touches}
 
 -- a route whose signal was shown has locked and thrown all its turnouts
 goes_locked : (s : Stage) (k : ℕ) → goes false s ≡ true → has_lock s k ≡ true
@@ -57,6 +59,48 @@ stands routes r n route place turnout holds h is at =
       locked = holds.locked n route place turnout here at (goes_locked (stage_at r.table.stages n) place may.goes);
       thrown = holds.thrown n route place turnout here at (goes_thrown (stage_at r.table.stages n) place may.goes);
     }
+
+-- a route is told to be set at the stage at which it reports so
+tells : (route : Route) (s : Stage) (number : ℕ) → order_of route s ≡ Some (order.Report number true)
+    → (s ≡ stage.Reporting) × (route.number ≡ number)
+tells route stage.Reporting number e = (refl, cc)
+tells route stage.Clearing number e = no_order _ route.signal (order.Report number true) _ (λ y h. cc) e
+tells route stage.Showing number e = no_order _ route.signal (order.Report number true) _ (λ y h. cc) e
+tells route stage.Stopping number e = no_order _ route.signal (order.Report number true) _ (λ y h. cc) e
+tells route (stage.Locking done) number e =
+    no_order (λ (x : Setting). order.Lock x.device) (turnout_at route done) (order.Report number true) _ (λ y h. cc) e
+tells route (stage.Throwing done) number e = no_order order.Throw (turnout_at route done) (order.Report number true) _ (λ y h. cc) e
+tells route (stage.Unlocking left) number e =
+    no_order (λ (x : Setting). order.Unlock x.device) (turnout_at route left) (order.Report number true) _ (λ y h. cc) e
+tells route other number e = absurd (cc)
+
+told_rightly : (routes : List Route) (r : Run) (number n : ℕ) → Holds routes r → r.table.waiting ≡ Some n
+    → (pends : PendsAt r.table r.order n) → (stage_at r.table.stages n ≡ stage.Reporting) × (pends.route.number ≡ number)
+    → IsToldRightly routes r number
+told_rightly routes r number n holds waits pends at = record {
+  teller = n;
+  route = pends.route;
+  tells = waits;
+  is = ap (λ (x : List Route). slice_get x n) (sym holds.fits.plan) ∙ pends.is;
+  named = at.1;
+  stand = λ place turnout turns. record {
+    locked = holds.locked n pends.route place turnout pends.is turns (ap (λ (s : Stage). has_lock s place) at.0);
+    thrown = holds.thrown n pends.route place turnout pends.is turns (ap (λ (s : Stage). has_thrown s place) at.0);
+  };
+  lit = λ some. holds.lit n pends.route pends.is some (ap is_told at.0);
+}
+
+told_by : (routes : List Route) (r : Run) (number : ℕ) (x : Option ℕ) → Holds routes r → r.table.waiting ≡ x
+    → Pends r.table r.order x → r.order ≡ Some (order.Report number true) → IsToldRightly routes r number
+told_by routes r number None holds waits pends e = absurd (cc)
+told_by routes r number (Some n) holds waits pends e =
+    let same : Some pends.order ≡ Some (order.Report number true) = sym pends.waits ∙ e in
+    told_rightly routes r number n holds waits pends
+    (tells pends.route (stage_at r.table.stages n) number (pends.orders ∙ same))
+
+pub set_is_told : SetIsTold
+set_is_told routes events number e = told_by routes (run routes events) number (run routes events).table.waiting
+    (run_holds routes events) refl (run_holds routes events).pends e
 
 pub shown_stand : ShownStand
 shown_stand routes events n route place turnout h is at =

@@ -1,15 +1,15 @@
 -- Which stages a route comes to, and at which of them its order has been sent.
 use Rattle.std.proofs.Common.{◌≡◌, ◌≢◌, ◌⊎◌, inl, inr, ℕ, ◌+◌, ◌-◌, ◌==◌, ◌<◌, ◌≤◌, Bool, true, false}
-use Rattle.std.proofs.Common.{Option, Some, None, List, [], ◌∷◌, length, refl, sym, ◌∙◌, ap, arith, subst}
+use Rattle.std.proofs.Common.{Option, Some, None, List, length, refl, sym, ◌∙◌, ap, arith, subst}
 use Rattle.std.proofs.lemmas.Bool.{cases_eq, eqb-false, lt-ltb, ltb-true, ne_eqb}
 use Rattle.std.proofs.lemmas.Option.{slice_get_within}
-use Rattle.std.specs.Option.{option_map_or, option_or}
-use Rattle.std.specs.Prelude.{fold, if◌then◌else◌, is_some, map, nat_lt, slice_get, slice_set}
+use Rattle.std.specs.Option.{option_map_or}
+use Rattle.std.specs.Prelude.{if◌then◌else◌, is_some, map, nat_lt, slice_get, slice_set}
 use Rattle.srcp_routes.specs.Conflicts.{are_free}
-use Rattle.srcp_routes.specs.Plan.{Table, stage_at, start, wanted_at}
-use Rattle.srcp_routes.specs.Runs.{order_heard}
-use Rattle.srcp_routes.specs.Stages.{after_reply, count_of, is_held, lost_stage, order_of, ready_stage, retried_stage}
-use Rattle.srcp_routes.specs.Steps.{after, answered, course, due, heard, may_begin, ready_at, sent, stage_replied, step}
+use Rattle.srcp_routes.specs.Plan.{Table, stage_at, wanted_at}
+use Rattle.srcp_routes.specs.Stages.{after_reply, count_of, is_held, lost_stage, order_of, ready_stage}
+use Rattle.srcp_routes.specs.Stages.{retried_stage}
+use Rattle.srcp_routes.specs.Steps.{answered, heard, may_begin, ready_at, sent, stage_replied}
 use Rattle.srcp_routes.specs.declared.interlocking.Event.{Event}
 use Rattle.srcp_routes.specs.declared.interlocking.Event.TheVariants.{Ask, Give, Told, Reply, Lost}
 use Rattle.srcp_routes.specs.declared.route.Order.{Order}
@@ -18,7 +18,7 @@ use Rattle.srcp_routes.specs.declared.route.Signal.{Signal}
 use Rattle.srcp_routes.specs.declared.stage.Stage.{Stage}
 use Rattle.srcp_routes.specs.declared.stage.Stage.TheVariants as stage
 use Rattle.srcp_routes.proofs.Apart.{stage_at-set, stage_at-set_same, stage_at-start}
-use Rattle.srcp_routes.proofs.Pending.{Fits, Pends, PendsAt, after_fits, start_fits, step_pends}
+use Rattle.srcp_routes.proofs.Pending.{Fits, Pends, PendsAt}
 use Rattle.srcp_routes.proofs.Signals.{start_stage}
 
 -- a stage that its route can come to
@@ -55,7 +55,7 @@ shown_well : (route : Route) (x : Option Signal) → route.signal ≡ x
 shown_well route None is = refl
 shown_well route (Some signal) is = ap (λ (x : Option Signal). is_some x) is
 
-lost_well : (route : Route) (x : Option Signal) → route.signal ≡ x
+pub lost_well : (route : Route) (x : Option Signal) → route.signal ≡ x
     → well route (option_map_or (λ signal. stage.Clearing) x stage.Closing) ≡ true
 lost_well route None is = refl
 lost_well route (Some signal) is = ap (λ (x : Option Signal). is_some x) is
@@ -139,7 +139,7 @@ fresh (stage.Locking done) = done == 0
 fresh stage.Showing = true
 fresh other = false
 
-fresh_held : (s : Stage) → fresh s ≡ true → is_held s ≡ true
+pub fresh_held : (s : Stage) → fresh s ≡ true → is_held s ≡ true
 fresh_held (stage.Locking done) h = refl
 fresh_held stage.Showing h = refl
 fresh_held other h = absurd (cc)
@@ -214,7 +214,7 @@ heard_well t (Reply ok) all = answer_well t ok t.waiting all
 heard_well t Lost all = λ n route is.
     ap (well route) (start_stage t.routes n route is) ∙ lost_well route route.signal refl
 
-next_well : (t : Table) (waits : Bool) (d : Option ℕ) → AllWell t.routes t.stages
+pub next_well : (t : Table) (waits : Bool) (d : Option ℕ) → AllWell t.routes t.stages
     → AllWell (if waits then record { table = t; order = None } else sent t d).table.routes
     (if waits then record { table = t; order = None } else sent t d).table.stages
 next_well t true d all = all
@@ -298,48 +298,9 @@ next_one t n m s (inr differ) waits all h = elim (stage_at-set t.stages n s m) [
       absurd (cc)
 ]
 
-next_sent : (t : Table) (x d : Option ℕ) → t.waiting ≡ x → AllSent t.stages t.waiting
+pub next_sent : (t : Table) (x d : Option ℕ) → t.waiting ≡ x → AllSent t.stages t.waiting
     → AllSent (if is_some x then record { table = t; order = None } else sent t d).table.stages
     (if is_some x then record { table = t; order = None } else sent t d).table.waiting
 next_sent t (Some n) d waits all = all
 next_sent t None None waits all = all
 next_sent t None (Some n) waits all = λ m h. next_one t n m (ready_at t n) (cases_eq m n) waits all h
-
--- what holds of each course
-pub record IsSound (routes : List Route) (t : Table) : Type 0 where
-  pub fits : Fits routes t
-  pub last : Option Order
-  pub pends : Pends t last t.waiting
-  pub well : AllWell t.routes t.stages
-  pub sent : AllSent t.stages t.waiting
-
-pub after_sound : (routes : List Route) (t : Table) (event : Event) → IsSound routes t → IsSound routes (after t event)
-after_sound routes t event sound = record {
-  fits = after_fits routes t event sound.fits;
-  last = option_or (step t event).order (order_heard sound.last event);
-  pends = step_pends routes t sound.last event sound.fits sound.pends;
-  well = next_well (heard t event) (is_some (heard t event).waiting) (due (heard t event))
-      (heard_well t event sound.well);
-  sent = next_sent (heard t event) (heard t event).waiting (due (heard t event)) refl
-      (heard_sent routes t sound.last event sound.fits sound.pends sound.sent);
-}
-
-start_sound : (routes : List Route) → IsSound routes (start routes)
-start_sound routes = record {
-  fits = start_fits routes;
-  last = None;
-  pends = refl;
-  well = λ n route is. ap (well route) (start_stage routes n route is) ∙ lost_well route route.signal refl;
-  sent = λ n h.
-      let not : is_held (stage_at (map lost_stage routes) n) ≡ false = stage_at-start routes n in
-      let held : is_held (stage_at (map lost_stage routes) n) ≡ true = fresh_held _ h in
-      absurd (cc);
-}
-
-fold_sound : (routes : List Route) (t : Table) (events : List Event) → IsSound routes t
-    → IsSound routes (fold after t events)
-fold_sound routes t [] sound = sound
-fold_sound routes t (event ∷ events) sound = fold_sound routes (after t event) events (after_sound routes t event sound)
-
-pub course_sound : (routes : List Route) (events : List Event) → IsSound routes (course routes events)
-course_sound routes events = fold_sound routes (start routes) events (start_sound routes)

@@ -1,10 +1,12 @@
 -- Which routes conflict, and which sensors are free.
-use Rattle.std.specs.Prelude.{◌==◌, Bool, false, not, ◌&&◌, ◌||◌, List, ◌++◌, map}
+use Rattle.std.specs.Prelude.{◌==◌, Bool, true, false, ◌&&◌, ◌||◌, List, ◌++◌, map}
 use Rattle.std.specs.Prelude.{if◌then◌else◌, option_to_list}
 use Rattle.std.specs.List.{flat_map, list_any, list_all}
 use Rattle.std.specs.Option.{option_map_or}
 use Rattle.srcp_routes.specs.declared.conflict.Sensed.{Sensed}
 use Rattle.srcp_routes.specs.declared.route.Device.{Device}
+use Rattle.srcp_routes.specs.declared.route.Occupancy.{Occupancy}
+use Rattle.srcp_routes.specs.declared.route.Occupancy.TheVariants as occupancy
 use Rattle.srcp_routes.specs.declared.route.Route.{Route}
 use Rattle.srcp_routes.specs.declared.route.Setting.{Setting}
 use Rattle.srcp_routes.specs.declared.route.Signal.{Signal}
@@ -47,20 +49,36 @@ meets route other = signal_meets route other || (turnouts_meet route other || bl
 abbrev pub conflicts : Route → Route → Bool
 conflicts route other = meets route other || meets other route
 
+-- 0 was told last
+abbrev pub is_vacant : Occupancy → Bool
+is_vacant occupancy.Free = true
+is_vacant other = false
+
+-- 1 was told last
+abbrev pub is_taken : Occupancy → Bool
+is_taken occupancy.Occupied = true
+is_taken other = false
+
 -- a sensor was last told to be 0
 abbrev pub is_free : List Sensed → Device → Bool
-is_free sensors sensor = list_any (λ (known : Sensed). known.is_free && is_same known.sensor sensor) sensors
+is_free sensors sensor =
+    list_any (λ (known : Sensed). is_vacant known.occupancy && is_same known.sensor sensor) sensors
+
+-- a sensor was last told to be 1
+abbrev pub is_occupied : List Sensed → Device → Bool
+is_occupied sensors sensor =
+    list_any (λ (known : Sensed). is_taken known.occupancy && is_same known.sensor sensor) sensors
 
 abbrev pub are_free : List Sensed → List Device → Bool
 are_free sensors blocks = list_all (λ block. is_free sensors block) blocks
 
--- what is known of a sensor after one was told to be on or off
-abbrev pub told_sensor : Device → Bool → Sensed → Sensed
-told_sensor sensor on known = if is_same known.sensor sensor then record known { is_free = not on } else known
+-- what is known of a sensor after something was told of one
+abbrev pub told_sensor : Device → Occupancy → Sensed → Sensed
+told_sensor sensor now known = if is_same known.sensor sensor then record known { occupancy = now } else known
 
 -- a sensor of which nothing was told
 abbrev pub unknown : Device → Sensed
-unknown sensor = record { sensor = sensor; is_free = false }
+unknown sensor = record { sensor = sensor; occupancy = occupancy.Unknown }
 
 -- the sensors of a route: its blocks, and the one that frees it
 abbrev pub route_sensors : Route → List Sensed

@@ -1,6 +1,6 @@
 -- What holds after every list of events.
-use Rattle.std.specs.Prelude.{◌≡◌, ◌≢◌, ◌⊎◌, ℕ, ◌≤◌, Bool, true, false, Option, Some, None, List}
-use Rattle.std.specs.Prelude.{length, map, fold, slice_get}
+use Rattle.std.specs.Prelude.{◌≡◌, ◌≢◌, ◌⊎◌, ℕ, ◌≤◌, Bool, true, false, ◌||◌, Option, Some, None, List}
+use Rattle.std.specs.Prelude.{length, map, fold, is_some, slice_get}
 use Rattle.srcp_routes.specs.Conflicts.{are_free, is_same}
 use Rattle.srcp_routes.specs.Plan.{Table, conflict_at, stage_at, wanted_at}
 use Rattle.srcp_routes.specs.Runs.{Run, run, run_after}
@@ -76,6 +76,23 @@ ShowsAreFree = (routes : List Route) (events : List Event) (event : Event) (sett
     → (step (run routes events).table event).order ≡ Some (order.Show setting)
     → IsShownRightly routes (run_after (run routes events) event) setting
 
+-- a route is told to be set rightly: it is that of the plan with this number, each of its turnouts is as it wants it,
+-- and its signal, if it has one, shows "go"
+pub record IsToldRightly (routes : List Route) (r : Run) (number : ℕ) : Type 0 where
+  pub teller : ℕ
+  pub route : Route
+  pub tells : r.table.waiting ≡ Some teller
+  pub is : slice_get routes teller ≡ Some route
+  pub named : route.number ≡ number
+  pub stand : (place : ℕ) (turnout : Setting) → turnout_at route place ≡ Some turnout
+      → IsThrownAndLocked r teller turnout
+  pub lit : is_some route.signal ≡ true → r.lit teller ≡ true
+
+-- as long as the reply has not come to the order that tells that a route is set, the route is told so rightly
+abbrev pub SetIsTold : Type 0
+SetIsTold = (routes : List Route) (events : List Event) (number : ℕ)
+    → (run routes events).order ≡ Some (order.Report number true) → IsToldRightly routes (run routes events) number
+
 -- the turnout that an order locks, throws or unlocks
 abbrev pub touched : Order → Option Device
 touched (order.Lock device) = Some device
@@ -115,12 +132,45 @@ abbrev pub IsServed : List Route → Table → ℕ → Route → Type 0
 IsServed routes t n route = (stage_at t.stages n ≡ stage.Set) ⊎ ((are_free t.sensors route.blocks.items ≡ false)
     ⊎ ((is_unstopped (stage_at t.stages n) ≡ true) ⊎ IsBehind routes t n))
 
+-- a route is asked for, or is so again before it ended
+abbrev pub is_asked : Table → ℕ → Bool
+is_asked t n = wanted_at t.wanted n || wanted_at t.again n
+
 -- once no order waits for its reply, each route that is asked for is served
 abbrev pub WantedAreServed : Type 0
 WantedAreServed = (routes : List Route) (events : List Event) (event : Event) (n : ℕ) (route : Route)
     → slice_get routes n ≡ Some route → (after (course routes events) event).waiting ≡ None
-    → wanted_at (after (course routes events) event).wanted n ≡ true
+    → is_asked (after (course routes events) event) n ≡ true
     → IsServed routes (after (course routes events) event) n route
+
+-- so it is of each route that is asked for by events alone
+abbrev pub AskedAreServed : Type 0
+AskedAreServed = (routes : List Route) (events : List Event) (event : Event) (n : ℕ) (route : Route)
+    → slice_get routes n ≡ Some route → (run_after (run routes events) event).table.waiting ≡ None
+    → (run_after (run routes events) event).asks n ≡ true
+    → IsServed routes (run_after (run routes events) event).table n route
+
+-- once no order waits for its reply, each route that was given back while its signal shows "go" has a signal that could
+-- not be stopped: all others were stopped, whatever was asked for since
+abbrev pub LeftEnds : Type 0
+LeftEnds = (routes : List Route) (events : List Event) (event : Event) (n : ℕ) (route : Route)
+    → slice_get routes n ≡ Some route → (run_after (run routes events) event).table.waiting ≡ None
+    → (run_after (run routes events) event).left n ≡ true
+    → is_unstopped (stage_at (run_after (run routes events) event).table.stages n) ≡ true
+
+-- a route holds no lock, and its signal was stopped if it was shown
+pub record IsEnded (r : Run) (n : ℕ) : Type 0 where
+  pub unlocked : (device : Device) → r.locked n device ≡ false
+  pub dark : r.shown n ≡ false
+
+-- once no order waits for its reply, each route that was given back and not asked for since has ended, or has a signal
+-- that could not be stopped
+abbrev pub GivenEnd : Type 0
+GivenEnd = (routes : List Route) (events : List Event) (event : Event) (n : ℕ) (route : Route)
+    → slice_get routes n ≡ Some route → (run_after (run routes events) event).table.waiting ≡ None
+    → (run_after (run routes events) event).given n ≡ true
+    → (is_unstopped (stage_at (run_after (run routes events) event).table.stages n) ≡ true)
+    ⊎ IsEnded (run_after (run routes events) event) n
 
 -- there is a number of replies after which no order waits, whichever of them accept and whichever refuse
 pub record Settles (t : Table) : Type 0 where

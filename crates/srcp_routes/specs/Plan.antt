@@ -1,4 +1,5 @@
--- The table of all routes: their stages, which are wanted, what is known of sensors, and whose order waits.
+-- The table of all routes: their stages, which are wanted, which are asked for again before they ended, what is known
+-- of sensors, and whose order waits.
 use Rattle.std.specs.Prelude.{ℕ, Bool, false, not, ◌&&◌, ◌||◌, Option, None, List, map}
 use Rattle.std.specs.Prelude.{length, replicate, option_and_then, slice_get, unwrap_or}
 use Rattle.std.specs.List.{list_all, range_with_len}
@@ -15,6 +16,7 @@ pub record Table : Type 0 where
   pub routes : List Route
   pub stages : List Stage
   pub wanted : List Bool
+  pub again : List Bool
   pub sensors : List Sensed
   pub waiting : Option ℕ
 
@@ -24,6 +26,7 @@ start routes = record {
   routes = routes;
   stages = map lost_stage routes;
   wanted = replicate (length routes) false;
+  again = replicate (length routes) false;
   sensors = sensors_of routes;
   waiting = None;
 }

@@ -1,12 +1,12 @@
 -- What events, orders and their replies alone say of the layout, without a look at stages.
-use Rattle.std.specs.Prelude.{◌≡◌, ℕ, ◌==◌, Bool, true, false, not, ◌&&◌, ◌||◌, Option, Some, None, List, fold}
-use Rattle.std.specs.Prelude.{if◌then◌else◌, is_some, slice_get}
+use Rattle.std.specs.Prelude.{ℕ, ◌==◌, Bool, true, false, not, ◌&&◌, ◌||◌, Option, Some, None, List, fold}
+use Rattle.std.specs.Prelude.{if◌then◌else◌, is_some, option_and_then, slice_get}
 use Rattle.std.specs.Option.{option_map_or, option_or}
-use Rattle.srcp_routes.specs.Conflicts.{is_same}
+use Rattle.srcp_routes.specs.Conflicts.{is_same, is_taken, is_vacant}
 use Rattle.srcp_routes.specs.Plan.{Table, start}
 use Rattle.srcp_routes.specs.Steps.{Stepped, step}
 use Rattle.srcp_routes.specs.declared.interlocking.Event.{Event}
-use Rattle.srcp_routes.specs.declared.interlocking.Event.TheVariants.{Told, Reply, Lost}
+use Rattle.srcp_routes.specs.declared.interlocking.Event.TheVariants.{Ask, Give, Told, Reply, Lost}
 use Rattle.srcp_routes.specs.declared.route.Device.{Device}
 use Rattle.srcp_routes.specs.declared.route.Order.{Order}
 use Rattle.srcp_routes.specs.declared.route.Order.TheVariants as order
@@ -26,7 +26,9 @@ abbrev pub Signals : Type 0
 Signals = ℕ → Bool
 
 -- a run so far: its table, the last order if its reply has not come, the locks, and what was thrown under them; which
--- signals this session has shown and not stopped, which signals may show "go", and which sensors are free
+-- signals this session has shown and not stopped, which signals may show "go", and which do since that was accepted;
+-- which sensors are free or occupied; which routes were given back since this session has shown their signals, and
+-- before these are stopped; which routes are asked for, and which were given back or refused and not asked for since
 pub record Run : Type 0 where
   pub table : Table
   pub order : Option Order
@@ -34,7 +36,12 @@ pub record Run : Type 0 where
   pub thrown : Throws
   pub shown : Signals
   pub may_go : Signals
+  pub lit : Signals
   pub free : Device → Bool
+  pub occupied : Device → Bool
+  pub left : Signals
+  pub asks : Signals
+  pub given : Signals
 
 -- the locks once the order of a route is accepted: a lock is granted
 abbrev pub granted : Locks → ℕ → Order → Locks
@@ -65,6 +72,12 @@ abbrev pub stopped : Signals → ℕ → Order → Signals
 stopped going n (order.Stop setting) m = not (m == n) && going m
 stopped going n other m = going m
 
+-- the signals that show "go" once the order of a route is accepted
+abbrev pub lit : Signals → ℕ → Order → Signals
+lit on n (order.Show setting) m = (m == n) || on m
+lit on n (order.Stop setting) m = not (m == n) && on m
+lit on n other m = on m
+
 -- the signals once an order is sent: one that is to show "go" may do so from now on, whatever the reply
 abbrev pub signals_sent : Signals → Option Order → Option ℕ → Signals
 signals_sent going (Some (order.Show setting)) waiting m = option_map_or (λ n. m == n) waiting false || going m
@@ -84,8 +97,48 @@ heard_of change lost known r other = known
 
 -- the sensors that are free once an event came
 abbrev pub free_heard : (Device → Bool) → Event → Device → Bool
-free_heard free (Told sensor on) x = if is_same x sensor then not on else free x
+free_heard free (Told sensor now) x = if is_same x sensor then is_vacant now else free x
 free_heard free other x = free x
+
+-- the sensors that are occupied once an event came
+abbrev pub occupied_heard : (Device → Bool) → Event → Device → Bool
+occupied_heard occupied (Told sensor now) x = if is_same x sensor then is_taken now else occupied x
+occupied_heard occupied other x = occupied x
+
+-- a route is one that the fall of this sensor gives back
+abbrev pub is_freed_by : List Route → ℕ → Device → Bool
+is_freed_by routes n sensor = option_map_or (λ freeing. is_same freeing sensor)
+    (option_and_then (λ (route : Route). route.frees) (slice_get routes n)) false
+
+-- an event gives a route back: somebody does, or the sensor that frees the route falls from 1 to 0
+abbrev pub gives_back : List Route → (Device → Bool) → Event → ℕ → Bool
+gives_back routes occupied (Give m) n = n == m
+gives_back routes occupied (Told sensor now) n = is_vacant now && (occupied sensor && is_freed_by routes n sensor)
+gives_back routes occupied other n = false
+
+-- the routes that were given back while their signals show "go", once an event came: until those are stopped
+abbrev pub left_heard : Run → Event → Signals
+left_heard r event n = heard_of stopped (λ m. false) r.shown r event n
+    && (r.left n || (r.shown n && gives_back r.table.routes r.occupied event n))
+
+-- the routes that are asked for once an event came: no longer if somebody gives the route back, the sensor that frees
+-- the route says 0, an order of the route is refused, or a session begins
+abbrev pub asks_heard : Run → Event → Signals
+asks_heard r (Ask m) n = (n == m) || r.asks n
+asks_heard r (Give m) n = not (n == m) && r.asks n
+asks_heard r (Told sensor now) n = not (is_vacant now && is_freed_by r.table.routes n sensor) && r.asks n
+asks_heard r (Reply true) n = r.asks n
+asks_heard r (Reply false) n = not (option_map_or (λ m. n == m) r.table.waiting false) && r.asks n
+asks_heard r Lost n = false
+
+-- the routes that were given back and not asked for since, once an event came: a refused order of a route gives the
+-- route back, and so does a session that begins
+abbrev pub given_heard : Run → Event → Signals
+given_heard r (Ask m) n = not (n == m) && r.given n
+given_heard r (Give m) n = (n == m) || r.given n
+given_heard r (Reply false) n = option_map_or (λ m. n == m) r.table.waiting false || r.given n
+given_heard r Lost n = true
+given_heard r other n = r.given n
 
 -- the order whose reply has not come once an event came
 abbrev pub order_heard : Option Order → Event → Option Order
@@ -104,7 +157,12 @@ goes_on r event stepped = record {
   shown = signals_sent (heard_of stopped (λ m. false) r.shown r event) stepped.order stepped.table.waiting;
   may_go = signals_sent (heard_of stopped (has_signal r.table.routes) r.may_go r event) stepped.order
       stepped.table.waiting;
+  lit = heard_of lit (λ m. false) r.lit r event;
   free = free_heard r.free event;
+  occupied = occupied_heard r.occupied event;
+  left = left_heard r event;
+  asks = asks_heard r event;
+  given = given_heard r event;
 }
 
 abbrev pub run_after : Run → Event → Run
@@ -119,7 +177,12 @@ run_start routes = record {
   thrown = λ m x. false;
   shown = λ m. false;
   may_go = has_signal routes;
+  lit = λ m. false;
   free = λ x. false;
+  occupied = λ x. false;
+  left = λ m. false;
+  asks = λ m. false;
+  given = λ m. true;
 }
 
 -- a run of a plan over a list of events

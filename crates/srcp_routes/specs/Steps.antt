@@ -1,13 +1,14 @@
 -- What each event makes of the table of all routes, and which order is sent then.
-use Rattle.std.specs.Prelude.{ℕ, Bool, true, false, not, ◌&&◌, Option, Some, None, List, find, map, fold}
+use Rattle.std.specs.Prelude.{ℕ, Bool, true, false, ◌&&◌, ◌||◌, Option, Some, None, List, find, map, fold}
 use Rattle.std.specs.Prelude.{if◌then◌else◌, slice_get, slice_set, option_and_then, is_some}
 use Rattle.std.specs.Option.{option_map_or}
-use Rattle.srcp_routes.specs.Conflicts.{are_free, is_free, told_sensor}
+use Rattle.srcp_routes.specs.Conflicts.{are_free, is_occupied, is_vacant, told_sensor}
 use Rattle.srcp_routes.specs.Plan.{Table, start, places, stage_at, wanted_at, is_clear, still_wanted}
 use Rattle.srcp_routes.specs.Stages.{after_reply, is_idle, order_of, ready_stage, retried_stage}
 use Rattle.srcp_routes.specs.declared.interlocking.Event.{Event}
 use Rattle.srcp_routes.specs.declared.interlocking.Event.TheVariants.{Ask, Give, Told, Reply, Lost}
 use Rattle.srcp_routes.specs.declared.route.Device.{Device}
+use Rattle.srcp_routes.specs.declared.route.Occupancy.{Occupancy}
 use Rattle.srcp_routes.specs.declared.route.Order.{Order}
 use Rattle.srcp_routes.specs.declared.route.Route.{Route}
 use Rattle.srcp_routes.specs.declared.stage.Stage.{Stage}
@@ -50,18 +51,29 @@ sent t (Some n) = record {
 abbrev pub next : Table → Stepped
 next t = if is_some t.waiting then record { table = t; order = None } else sent t (due t)
 
+-- a route that is asked for is wanted from then on; but a route that was given back ends first
+abbrev pub is_taken_up : Table → ℕ → Bool
+is_taken_up t n = is_idle (stage_at t.stages n) || wanted_at t.wanted n
+
+abbrev pub asked : Table → ℕ → Table
+asked t n = record t {
+  wanted = if is_taken_up t n then slice_set t.wanted n true else t.wanted;
+  again = if is_taken_up t n then t.again else slice_set t.again n true;
+}
+
 -- a route is given back; a signal that could not be stopped is to be stopped again
 abbrev pub given : Table → ℕ → Table
 given t n = record t {
   stages = slice_set t.stages n (retried_stage (stage_at t.stages n));
   wanted = slice_set t.wanted n false;
+  again = slice_set t.again n false;
 }
 
--- a sensor is told to be on or off; its fall gives back each held route that it frees
-abbrev pub told : Table → Device → Bool → Table
-told t sensor on = record t {
-  sensors = map (told_sensor sensor on) t.sensors;
-  wanted = if not on && not (is_free t.sensors sensor) then still_wanted t sensor else t.wanted;
+-- something is told of a sensor; its fall from 1 to 0 gives back each held route that it frees
+abbrev pub told : Table → Device → Occupancy → Table
+told t sensor now = record t {
+  sensors = map (told_sensor sensor now) t.sensors;
+  wanted = if is_vacant now && is_occupied t.sensors sensor then still_wanted t sensor else t.wanted;
 }
 
 -- the stage of a route after the reply to its order
@@ -69,20 +81,34 @@ abbrev pub stage_replied : Table → ℕ → Bool → Stage
 stage_replied t n ok =
     option_map_or (λ (route : Route). after_reply route (stage_at t.stages n) ok) (slice_get t.routes n) stage.Idle
 
--- the order of a route is accepted or refused; what is refused is not wanted
+-- a route ends by the reply to its order, and was asked for again before
+abbrev pub is_renewed : Table → Bool → ℕ → Bool
+is_renewed t ok n = ok && (is_idle (stage_replied t n ok) && wanted_at t.again n)
+
+-- which routes are wanted after the reply to the order of a route; what is refused is not
+abbrev pub wanted_after : Table → Bool → ℕ → List Bool
+wanted_after t ok n =
+    if is_renewed t ok n then slice_set t.wanted n true else (if ok then t.wanted else slice_set t.wanted n false)
+
+abbrev pub again_after : Table → Bool → ℕ → List Bool
+again_after t ok n =
+    if is_renewed t ok n then slice_set t.again n false else (if ok then t.again else slice_set t.again n false)
+
+-- the order of a route is accepted or refused
 abbrev pub answered : Table → Bool → ℕ → Table
 answered t ok n = record t {
   stages = slice_set t.stages n (stage_replied t n ok);
-  wanted = if ok then t.wanted else slice_set t.wanted n false;
+  wanted = wanted_after t ok n;
+  again = again_after t ok n;
   waiting = None;
 }
 
 -- a route is asked for or given back, a sensor is told, or the order that waits is accepted or refused; as a session
 -- begins all is as at the start, but what is known of sensors
 abbrev pub heard : Table → Event → Table
-heard t (Ask n) = record t { wanted = slice_set t.wanted n true }
+heard t (Ask n) = asked t n
 heard t (Give n) = given t n
-heard t (Told sensor on) = told t sensor on
+heard t (Told sensor now) = told t sensor now
 heard t (Reply ok) = option_map_or (answered t ok) t.waiting t
 heard t Lost = record (start t.routes) { sensors = t.sensors }
 

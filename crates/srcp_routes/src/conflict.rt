@@ -3,19 +3,19 @@
 ghost use Rattle.std.specs.Prelude.{◌≡◌, ◌++◌, IfOk, OnOk, map};
 ghost use Rattle.srcp_routes.specs.Conflicts.{is_same, has_accessory, is_signal, uses, has_block, signal_meets};
 ghost use Rattle.srcp_routes.specs.Conflicts.{turnouts_meet, blocks_meet, meets, conflicts, is_free, are_free};
-ghost use Rattle.srcp_routes.specs.Conflicts.{told_sensor, unknown, route_sensors, sensors_of};
+ghost use Rattle.srcp_routes.specs.Conflicts.{is_occupied, told_sensor, unknown, route_sensors, sensors_of};
 
-use crate::{Device, Route, Setting};
+use crate::{Device, Occupancy, Route, Setting};
 use std::alloc::{AllocError, Global};
 use std::vec::Vec;
 
-/// Says what a sensor was last told to be.
+/// Says what is known of one sensor.
 #[derive(Clone, Copy, Debug, PartialEq, Eq)]
 pub(crate) struct Sensed {
     /// The sensor.
     pub(crate) sensor: Device,
-    /// True if the sensor was last told to be 0.
-    pub(crate) is_free: bool,
+    /// What the sensor was last told to be.
+    pub(crate) occupancy: Occupancy,
 }
 
 /// Returns whether two devices are the same.
@@ -103,9 +103,14 @@ pub(crate) fn conflicts(route: &Route, other: &Route) -> bool
 pub(crate) fn is_free(sensors: &[Sensed], sensor: Device) -> bool
     ensures { result ≡ is_free sensors.now sensor }
 {
-    sensors
-        .iter()
-        .any(|known| known.is_free && is_same(known.sensor, sensor))
+    sensors.iter().any(|known| known.occupancy.is_free() && is_same(known.sensor, sensor))
+}
+
+/// Returns whether a sensor is occupied.
+pub(crate) fn is_occupied(sensors: &[Sensed], sensor: Device) -> bool
+    ensures { result ≡ is_occupied sensors.now sensor }
+{
+    sensors.iter().any(|known| known.occupancy.is_occupied() && is_same(known.sensor, sensor))
 }
 
 /// Returns whether all these blocks are free.
@@ -115,26 +120,26 @@ pub(crate) fn are_free(sensors: &[Sensed], blocks: &[Device]) -> bool
     blocks.iter().all(|block| is_free(sensors, *block))
 }
 
-/// Returns what is known of a sensor after `sensor` was told to be on or off.
-fn told(known: Sensed, sensor: Device, is_on: bool) -> Sensed
-    ensures { result ≡ told_sensor sensor is_on known }
+/// Returns what is known of a sensor after something was told of `sensor`.
+fn told(known: Sensed, sensor: Device, occupancy: Occupancy) -> Sensed
+    ensures { result ≡ told_sensor sensor occupancy known }
 {
     if is_same(known.sensor, sensor) {
         Sensed {
             sensor: known.sensor,
-            is_free: !is_on,
+            occupancy,
         }
     } else {
         known
     }
 }
 
-/// Takes in whether a sensor was told to be on or off.
-pub(crate) fn sense(sensors: &mut [Sensed], sensor: Device, is_on: bool)
-    ensures { sensors.new ≡ map (told_sensor sensor is_on) sensors.old }
+/// Takes in what was told of a sensor.
+pub(crate) fn sense(sensors: &mut [Sensed], sensor: Device, occupancy: Occupancy)
+    ensures { sensors.new ≡ map (told_sensor sensor occupancy) sensors.old }
 {
     for known in sensors.iter_mut() {
-        *known = told(*known, sensor, is_on);
+        *known = told(*known, sensor, occupancy);
     }
 }
 
@@ -144,7 +149,7 @@ fn unknown(sensor: Device) -> Sensed
 {
     Sensed {
         sensor,
-        is_free: false,
+        occupancy: Occupancy::Unknown,
     }
 }
 

@@ -1,17 +1,16 @@
 //! All routes of a plan: which route sends an order next, and what each event makes of the routes.
 
-ghost use Rattle.std.specs.Prelude.{◌≡◌, ◌<◌, ◌&&◌, IfOk, IfSome, length, map, not};
-ghost use Rattle.std.specs.List.{range_with_len};
-ghost use Rattle.srcp_routes.specs.Plan.{conflict_at, is_clear, is_freed, stage_at, start};
-ghost use Rattle.srcp_routes.specs.Plan.{wanted_at};
-ghost use Rattle.srcp_routes.specs.Stages.{lost_stage};
-ghost use Rattle.srcp_routes.specs.Steps.{due, given, heard, may_begin, next, order_at, ready_at, stage_replied, step};
+ghost use Rattle.std.specs.Prelude.{◌≡◌, ◌<◌, IfOk, IfSome, length};
+ghost use Rattle.srcp_routes.specs.Plan.{start};
+ghost use Rattle.srcp_routes.specs.Steps.{due, given, heard, is_renewed, may_begin, next, order_at, ready_at};
+ghost use Rattle.srcp_routes.specs.Steps.{stage_replied, step};
 ghost use Rattle.srcp_routes.specs.Steps.{told};
 ghost use Rattle.srcp_routes.specs.declared.interlocking.Event.TheVariants.{Ask, Lost, Reply};
 
-use crate::conflict::{Sensed, are_free, conflicts, is_free, is_same, sense, sensors_of};
+use crate::conflict::{Sensed, are_free, is_occupied, sense, sensors_of};
 use crate::stage::{after_reply, lost, order_of, ready, retried};
-use crate::{Device, Order, Route, Stage};
+use crate::table::{give_freed, is_clear, lost_stages, stage_at, wanted_at};
+use crate::{Device, Occupancy, Order, Route, Stage};
 use std::alloc::{AllocError, Global};
 use std::marker::Model;
 use std::vec::Vec;
@@ -19,7 +18,7 @@ use std::vec::Vec;
 /// Names an event of an interlocking. A route is named by its place in the plan.
 ///
 /// ```
-/// let event = Event::Told(Device { bus: 1, address: 12 }, true);
+/// let event = Event::Told(Device { bus: 1, address: 12 }, Occupancy::Free);
 /// let order = interlocking.step(event);
 /// ```
 #[derive(Clone, Copy, Debug, PartialEq, Eq)]
@@ -28,8 +27,8 @@ pub enum Event {
     Ask(usize),
     /// A route is given back.
     Give(usize),
-    /// A sensor is told to be on or off.
-    Told(Device, bool),
+    /// A sensor is told to be free or occupied, or is not known any more.
+    Told(Device, Occupancy),
     /// The order that was sent is accepted, or refused.
     Reply(bool),
     /// A command session has begun: the locks of the session before are gone.
@@ -52,6 +51,7 @@ pub struct Interlocking {
     routes: Vec<Route>,
     stages: Vec<Stage>,
     wanted: Vec<bool>,
+    again: Vec<bool>,
     sensors: Vec<Sensed>,
     waiting: Option<usize>,
 }
@@ -67,77 +67,14 @@ impl Model for Interlocking {
       routes = t.routes.items;
       stages = t.stages.items;
       wanted = t.wanted.items;
+      again = t.again.items;
       sensors = t.sensors.items;
       waiting = t.waiting;
     } };
 
     ghost invariant = { λ t.
-        (length t.stages.items ≡ length t.routes.items) × (length t.wanted.items ≡ length t.routes.items) };
-}
-
-/// Returns whether the routes at two places conflict.
-fn conflict_at(routes: &[Route], n: usize, m: usize) -> bool
-    ensures { result ≡ conflict_at routes.now n m }
-{
-    match (routes.get(n), routes.get(m)) {
-        (Some(route), Some(other)) => conflicts(route, other),
-        _ => false,
-    }
-}
-
-/// Returns the stage of the route at a place.
-fn stage_at(stages: &[Stage], n: usize) -> Stage
-    ensures { result ≡ stage_at stages.now n }
-{
-    stages.get(n).copied().unwrap_or(Stage::Idle)
-}
-
-/// Returns whether the route at a place is wanted.
-fn wanted_at(wanted: &[bool], n: usize) -> bool
-    ensures { result ≡ wanted_at wanted.now n }
-{
-    wanted.get(n).copied().unwrap_or(false)
-}
-
-/// Returns whether each route that conflicts with the route at a place is `Idle`.
-fn is_clear(routes: &[Route], stages: &[Stage], n: usize) -> bool
-    ensures { result ≡ is_clear routes.now stages.now n }
-{
-    for m in 0..routes.len() {
-        if conflict_at(routes, n, m) && !stage_at(stages, m).is_idle() {
-            return false;
-        }
-    }
-    true
-}
-
-/// Returns whether the route at a place is held, and the fall of this sensor gives the route back.
-fn is_freed(routes: &[Route], stages: &[Stage], sensor: Device, n: usize) -> bool
-    ensures { result ≡ is_freed routes.now stages.now sensor n }
-{
-    match routes.get(n).and_then(|route| route.frees) {
-        Some(freeing) => is_same(freeing, sensor) && stage_at(stages, n).is_held(),
-        None => false,
-    }
-}
-
-/// Gives back each held route that the fall of this sensor gives back.
-fn give_freed(routes: &[Route], stages: &[Stage], sensor: Device, wanted: &mut [bool])
-    ensures { wanted.new ≡ map (λ n. wanted_at wanted.old n && not (is_freed routes.now stages.now sensor n))
-        (range_with_len 0 (length wanted.old)) }
-{
-    for n in 0..wanted.len() {
-        if is_freed(routes, stages, sensor, n) {
-            wanted[n] = false;
-        }
-    }
-}
-
-/// Returns the stages of all routes as a command session begins.
-fn lost_stages(alloc: Global, routes: &[Route]) -> Result<Vec<Stage>, AllocError>
-    ensures { IfOk result (λ stages. stages.items ≡ map lost_stage routes.now) }
-{
-    routes.iter().map(|route| lost(route)).collect(alloc)
+        (length t.stages.items ≡ length t.routes.items) × (length t.wanted.items ≡ length t.routes.items)
+        × (length t.again.items ≡ length t.routes.items) };
 }
 
 impl Interlocking {
@@ -151,11 +88,13 @@ impl Interlocking {
     {
         let stages = lost_stages(alloc, &routes)?;
         let wanted = vec![in alloc; false; routes.len()]?;
+        let again = vec![in alloc; false; routes.len()]?;
         let sensors = sensors_of(alloc, &routes)?;
         Ok(Interlocking {
             routes,
             stages,
             wanted,
+            again,
             sensors,
             waiting: None,
         })
@@ -228,12 +167,16 @@ impl Interlocking {
         order
     }
 
-    /// Notes that a route is asked for.
+    /// Notes that a route is asked for. A route that was given back ends first, and is wanted then.
     fn ask(&mut self, n: usize)
         ensures { self.new ≡ heard self.old (Ask n) }
     {
         if n < self.routes.len() {
-            self.wanted[n] = true;
+            if stage_at(&self.stages, n).is_idle() || wanted_at(&self.wanted, n) {
+                self.wanted[n] = true;
+            } else {
+                self.again[n] = true;
+            }
         }
     }
 
@@ -245,17 +188,18 @@ impl Interlocking {
             let stage = retried(stage_at(&self.stages, n));
             self.stages[n] = stage;
             self.wanted[n] = false;
+            self.again[n] = false;
         }
     }
 
-    /// Notes whether a sensor was told to be on or off.
-    fn tell(&mut self, sensor: Device, is_on: bool)
-        ensures { self.new ≡ told self.old sensor is_on }
+    /// Notes what was told of a sensor.
+    fn tell(&mut self, sensor: Device, occupancy: Occupancy)
+        ensures { self.new ≡ told self.old sensor occupancy }
     {
-        if !is_on && !is_free(&self.sensors, sensor) {
+        if occupancy.is_free() && is_occupied(&self.sensors, sensor) {
             give_freed(&self.routes, &self.stages, sensor, &mut self.wanted);
         }
-        sense(&mut self.sensors, sensor, is_on);
+        sense(&mut self.sensors, sensor, occupancy);
     }
 
     /// Returns the stage of the route at a place after the reply to the route's order.
@@ -268,6 +212,13 @@ impl Interlocking {
         }
     }
 
+    /// Returns whether the route at a place ends by the reply to the route's order, and was asked for again before.
+    fn is_renewed(&self, n: usize, ok: bool) -> bool
+        ensures { result ≡ is_renewed self.now ok n }
+    {
+        ok && self.stage_replied(n, ok).is_idle() && wanted_at(&self.again, n)
+    }
+
     /// Notes the reply to the waiting order.
     fn reply(&mut self, ok: bool)
         ensures { self.new ≡ heard self.old (Reply ok) }
@@ -277,9 +228,14 @@ impl Interlocking {
         };
         if n < self.routes.len() {
             let stage = self.stage_replied(n, ok);
+            let is_renewed = self.is_renewed(n, ok);
             self.stages[n] = stage;
-            if !ok {
+            if is_renewed {
+                self.wanted[n] = true;
+                self.again[n] = false;
+            } else if !ok {
                 self.wanted[n] = false;
+                self.again[n] = false;
             }
         }
         self.waiting = None;
@@ -294,6 +250,7 @@ impl Interlocking {
             self.stages[n] = lost(&self.routes[n]);
         }
         self.wanted.fill(false);
+        self.again.fill(false);
         self.waiting = None;
     }
 
@@ -304,7 +261,7 @@ impl Interlocking {
         match event {
             Event::Ask(n) => self.ask(n),
             Event::Give(n) => self.give(n),
-            Event::Told(sensor, is_on) => self.tell(sensor, is_on),
+            Event::Told(sensor, occupancy) => self.tell(sensor, occupancy),
             Event::Reply(ok) => self.reply(ok),
             Event::Lost => self.lose(),
         }

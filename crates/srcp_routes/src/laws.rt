@@ -1,7 +1,7 @@
 //! Laws of every list of events. Each function does nothing: its `ensures` is the law.
 
-ghost use Rattle.srcp_routes.specs.Laws.{HeldStandAlone, RepliesSettle, ShownAreKept, ShownStand, ShowsAreFree};
-ghost use Rattle.srcp_routes.specs.Laws.{ThrowsAreLocked, WantedAreServed};
+ghost use Rattle.srcp_routes.specs.Laws.{AskedAreServed, GivenEnd, HeldStandAlone, LeftEnds, RepliesSettle, SetIsTold};
+ghost use Rattle.srcp_routes.specs.Laws.{ShownAreKept, ShownStand, ShowsAreFree, ThrowsAreLocked, WantedAreServed};
 
 /// States for any plan and any list of events: while a route is held, each other route that conflicts is idle. No two
 /// routes that conflict are held at once.
@@ -26,11 +26,40 @@ pub fn shown_are_safe()
     ensures kept { ShownAreKept }
 {}
 
+/// States for any plan and any list of events what stands as a route is told to be set. Each turnout of the route is
+/// locked, and was thrown since as the route wants. The order that shows the signal of the route, if
+/// there is one, was accepted, and no order stopped the signal since.
+pub fn set_is_told()
+    ensures { SetIsTold }
+{}
+
 /// States for any plan and any list of events what is true once no order waits for a reply. Each route that is asked
 /// for is set, or waits for a reason. A block of the route is not free, or the route's own signal could not be stopped.
 /// Or the route is behind a conflicting route, which is asked for and held, or has a signal that could not be stopped.
 pub fn wanted_are_served()
     ensures { WantedAreServed }
+{}
+
+/// States the same of each route that is asked for by events alone. A route is asked for from an ask on. That ends if
+/// somebody gives the route back, or the sensor that frees the route says 0. It ends too if an order of the route is
+/// refused, or a command session begins.
+pub fn asked_are_served()
+    ensures { AskedAreServed }
+{}
+
+/// States for any plan and any list of events what is true of a route that was given back. Somebody gave the route
+/// back, or the sensor that frees the route fell from 1 to 0, while the route's signal showed "go". Once no order waits
+/// for a reply, the signal is stopped, or could not be stopped. It does not matter what was asked for since.
+pub fn left_ends()
+    ensures { LeftEnds }
+{}
+
+/// States for any plan and any list of events what is true of a route that was given back and not asked for since. A
+/// refused order of the route gives the route back too, and so does the begin of a command session. Once no order waits
+/// for a reply, the route holds no lock, and the signal of the route was stopped if it was shown. Or the signal could
+/// not be stopped.
+pub fn given_end()
+    ensures { GivenEnd }
 {}
 
 /// States for any plan and any list of events that replies settle the routes. If nothing but replies comes then, some

@@ -10,8 +10,9 @@ mod interlocking;
 pub mod laws;
 mod route;
 mod stage;
+mod table;
 
 pub use conflict::{has_accessory, has_block, is_same, uses};
 pub use interlocking::{Event, Interlocking};
-pub use route::{Device, Order, Route, Setting, Signal};
+pub use route::{Device, Occupancy, Order, Route, Setting, Signal};
 pub use stage::Stage;

@@ -1,5 +1,8 @@
 //! What a plan says of a route, and the orders that routes send.
 
+ghost use Rattle.std.specs.Prelude.{◌≡◌};
+ghost use Rattle.srcp_routes.specs.Conflicts.{is_taken, is_vacant};
+
 use std::vec::Vec;
 
 /// Names an accessory or a sensor.
@@ -45,6 +48,33 @@ pub struct Signal {
     pub stop: u8,
 }
 
+/// Says what is known of a sensor.
+#[derive(Clone, Copy, Debug, PartialEq, Eq)]
+pub enum Occupancy {
+    /// Nothing is known of the sensor.
+    Unknown,
+    /// The sensor was last told to be 0.
+    Free,
+    /// The sensor was last told to be 1.
+    Occupied,
+}
+
+impl Occupancy {
+    /// Returns whether a sensor is known to be 0.
+    pub(crate) fn is_free(self) -> bool
+        ensures { result ≡ is_vacant self }
+    {
+        matches!(self, Occupancy::Free)
+    }
+
+    /// Returns whether a sensor is known to be 1.
+    pub(crate) fn is_occupied(self) -> bool
+        ensures { result ≡ is_taken self }
+    {
+        matches!(self, Occupancy::Occupied)
+    }
+}
+
 /// Describes a route.
 ///
 /// ```
@@ -58,11 +88,11 @@ pub struct Route {
     pub number: u32,
     /// The turnouts, each with the port that the route wants.
     pub turnouts: Vec<Setting>,
-    /// The sensors that have to be 0.
+    /// The sensors that have to be known to be 0.
     pub blocks: Vec<Device>,
     /// The signal, if any.
     pub signal: Option<Signal>,
-    /// The sensor whose fall gives the route back, if any.
+    /// The sensor that gives the route back as the sensor falls from 1 to 0, if any.
     pub frees: Option<Device>,
 }
 

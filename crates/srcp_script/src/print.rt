@@ -23,7 +23,7 @@ use std::vec::Vec;
 /// memory.
 #[tactic(auto, using(crate::proofs::Prints::finish_most))]
 pub fn connection_line(number: usize, conn: &ConnRecord) -> LineBuf
-    ensures { result ≡ connection_line number conn.now }
+    ensures { result.items ≡ connection_line number conn.now }
 {
     let mut line = LineBuf::new();
     put_bytes(b"connection ".as_slice(), &mut line);
@@ -37,9 +37,9 @@ pub fn connection_line(number: usize, conn: &ConnRecord) -> LineBuf
 /// Appends a number of at most 20 bytes and a space.
 #[tactic(auto, using(crate::proofs::Prints::number_most))]
 fn put_count(number: usize, line: &mut LineBuf)
-    requires { length line.old + longest_count ≤ LONGEST_WRITTEN }
-    ensures items { line.new ≡ line.old ++ decimal number ++ 32 ∷ [] }
-    ensures most { length line.new ≤ length line.old + longest_count }
+    requires { length line.old.items + longest_count ≤ LONGEST_WRITTEN }
+    ensures items { line.new.items ≡ line.old.items ++ decimal number ++ 32 ∷ [] }
+    ensures most { length line.new.items ≤ length line.old.items + longest_count }
 {
     put_number(number as u64, line);
     line.push(b' ');

@@ -1,2 +1,4 @@
 pub mod Early
 pub mod Faults
+pub mod Options
+pub mod Silence

@@ -33,7 +33,7 @@ pub struct SocketDoor<S: System> {
     faults: u64,
     ghost most: { length ready.items ≡ most_ready },
     ghost fair: { AnswersFairly sockets.system.log.steps } by { AnswersFairly-prop _ },
-    ghost shares: { SharesHold sockets.system.log.steps sockets.turn sockets.starved
+    ghost shares: { SharesHold sockets.system.log.steps sockets.turn sockets.services
         sockets.peers.items } by { SharesHold-prop _ _ _ _ },
 }
 
@@ -170,7 +170,7 @@ impl<S: System> Door for SocketDoor<S> {
         ensures late { self.old.sockets.turn.late ≡ true → result ≡ Ok Got.Nothing }
         ensures answered { self.old.sockets.turn.late ≡ false
             → IsPeerRead self.old.sockets.turn self.old.sockets.peers.items self.new.sockets.peers.items peer
-            (length buf.old) result (got_bytes result buf.new) self.old.sockets.starved self.new.sockets.starved }
+            (length buf.old) result (got_bytes result buf.new) }
         ensures limit { self.new.sockets.most ≡ self.old.sockets.most }
     {
         if self.sockets.is_late() {

@@ -22,6 +22,7 @@ ghost use Rattle.srcp_peers.specs.Limits.{longest_sleep, retry_delay};
 ghost use Rattle.srcp_log.specs.KeptTimes.{AreKeptTimes, ArePaced};
 ghost use Rattle.srcp_log.specs.Limits.{most_lingering, most_ready};
 ghost use Rattle.srcp_log.specs.Loads.{AreBounded, load};
+ghost use Rattle.srcp_log.specs.Services.{AreInTurn, NobodyStarves};
 ghost use Rattle.srcp_log.specs.Shares.{AreFilled};
 ghost use Rattle.srcp_peers.specs.Sizes.{AreSmall};
 ghost use Rattle.srcp_peers.specs.Times.{times};
@@ -228,6 +229,17 @@ pub fn input_is_handed_out<S: System>(door: &SocketDoor<S>)
 /// many lines as the pace lets through, and at least one if a line ends in the piece.
 pub fn lines_are_handed_out<S: System>(door: &SocketDoor<S>)
     ensures { AreFilled door.now.sockets.turn.timekeeper.wall door.now.sockets.turn.timekeeper.start
+        door.now.sockets.system.log.steps }
+{}
+
+/// States that no peer starves. A peer is served when the peer comes, and when input of the peer is handed out. Lines
+/// that weigh something may be handed out of a peer while not every line may go. Then the door held input that the core
+/// takes of no peer that was served longer ago (`in_turn`). So between that service of the peer and the one before,
+/// each other peer was served of which the door holds such input (`between`). Both are of the first 2^64 - 2 services.
+pub fn nobody_starves<S: System>(door: &SocketDoor<S>)
+    ensures in_turn { AreInTurn door.now.sockets.turn.timekeeper.wall door.now.sockets.turn.timekeeper.start
+        door.now.sockets.system.log.steps }
+    ensures between { NobodyStarves door.now.sockets.turn.timekeeper.wall door.now.sockets.turn.timekeeper.start
         door.now.sockets.system.log.steps }
 {}
 

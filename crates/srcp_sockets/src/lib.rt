@@ -13,6 +13,7 @@ pub mod laws;
 mod mio_system;
 mod opening;
 mod options;
+mod silence;
 mod sockets;
 
 pub use door::SocketDoor;

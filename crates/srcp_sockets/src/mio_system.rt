@@ -1,7 +1,7 @@
 //! The system of the machine: mio's sockets and a clock. A call that names a number finds the socket of that number and
 //! makes the system call. A wait that failed or was ended early is followed by a rest.
 
-ghost use Rattle.std.specs.Prelude.{◌≡◌, ◌≢◌, ◌/◌, ◌||◌, IfOk, ◌<◌, IfNone, IfSome, length, min, All};
+ghost use Rattle.std.specs.Prelude.{◌≡◌, ◌≢◌, ◌/◌, ◌||◌, IfOk, ◌<◌, ◌≤◌, IfNone, IfSome, length, min, All};
 ghost use Rattle.std.specs.Prelude.{None, Option, Some, ℕ, true, if◌then◌else◌, slice_index_or};
 ghost use Rattle.std.specs.List.Sorted.{IsNonDecreasingBy};
 ghost use Rattle.std.specs.Duration.{as_nanos};
@@ -10,7 +10,8 @@ ghost use Rattle.srcp_sockets.specs.Early.{is_early};
 ghost use Rattle.srcp_log.specs.Limits.{failed_wait};
 
 use crate::door::MOST_READY;
-use crate::options::{reset, set_options};
+use crate::options::{LOST_AFTER, lose_after, reset, set_options};
+use crate::silence::{LOOK_EVERY, Watch};
 use mio::net::{TcpListener, TcpStream};
 use mio::{Events, Interest, Poll, Token};
 use srcp_peers::{Ready, System};
@@ -34,6 +35,8 @@ struct Socket {
     stream: TcpStream,
     // True if the socket was shut down: the system still delivers what it holds.
     shut: bool,
+    // How the socket takes what is written.
+    watch: Watch,
 }
 
 impl Socket {
@@ -41,6 +44,53 @@ impl Socket {
     fn shutdown(&mut self) {
         self.shut = true;
         let _ = self.stream.shutdown(Shutdown::Write);
+    }
+
+    /// Writes once, and notes how much the socket took. `now` is what the clock showed, in milliseconds.
+    fn write(&mut self, bytes: &[u8], now: u64) -> Result<usize, ErrorKind>
+        ensures { IfOk result (λ count. count ≤ length bytes.now) }
+    {
+        if self.watch.is_over() {
+            return Err(ErrorKind::TimedOut);
+        }
+        match self.stream.write(bytes) {
+            Ok(count) => {
+                self.note(count, bytes.len(), now);
+                Ok(count)
+            }
+            Err(fault) => {
+                self.note(0, bytes.len(), now);
+                Err(fault.kind())
+            }
+        }
+    }
+
+    /// Notes that a write took `count` of `all` bytes.
+    fn note(&mut self, count: usize, all: usize, now: u64) {
+        if matches!(self.watch, Watch::Taking) && count < all {
+            // The system's own time would go on while this peer reads slowly.
+            lose_after(&self.stream, 0);
+        }
+        self.watch = self.watch.after_write(count, all, now);
+    }
+
+    /// Looks at a socket that was found full.
+    fn look(&mut self, now: u64) {
+        if self.watch.is_calm(now) {
+            lose_after(&self.stream, LOST_AFTER);
+            self.watch = Watch::Taking;
+        } else if self.watch.is_due() && self.watch.is_lost(now) {
+            self.watch = Watch::Lost;
+        }
+    }
+
+    /// Returns whether a look found the peer lost, once.
+    fn tells_loss(&mut self) -> bool {
+        let news = matches!(self.watch, Watch::Lost);
+        if news {
+            self.watch = Watch::Told;
+        }
+        news
     }
 
     /// Resets a connection that was not shut down. Its peer was lost, or did not take all in time.
@@ -64,8 +114,9 @@ pub struct MioSystem<C: Clock + Drop> {
     poll: Poll,
     events: Events<Global>,
     clock: C,
-    // The last time that the clock showed, in milliseconds.
+    // The last time that the clock showed, in milliseconds, and that at which the sockets were looked at.
     shown: u64,
+    looked: u64,
     // By rising numbers.
     sockets: Vec<Socket>,
     // The index of the last socket that was asked.
@@ -88,7 +139,6 @@ impl<C: Clock + Drop> MioSystem<C> {
         let wall = clock.since_1970().map_or(0, milliseconds);
         let start = clock.monotonic().map_or(0, milliseconds);
         let mut listener = TcpListener::bind(net, address)?;
-        set_options(&listener)?;
         let poll = Poll::new(net)?;
         poll.registry()
             .register(&mut listener, LISTENER, Interest::READABLE)?;
@@ -101,6 +151,7 @@ impl<C: Clock + Drop> MioSystem<C> {
             events: Events::with_capacity(alloc, MOST_READY)?,
             clock,
             shown: 0,
+            looked: 0,
             sockets: Vec::new(alloc),
             recent: 0,
         })
@@ -114,10 +165,12 @@ impl<C: Clock + Drop> MioSystem<C> {
             Interest::READABLE | Interest::WRITABLE | Interest::PRIORITY,
         )?;
         stream.set_nodelay(true)?;
+        set_options(&stream);
         self.sockets.push(Socket {
             number,
             stream,
             shut: false,
+            watch: Watch::Taking,
         })?;
         Ok(())
     }
@@ -144,6 +197,36 @@ impl<C: Clock + Drop> MioSystem<C> {
         };
         self.recent = index;
         Ok(&mut self.sockets[index])
+    }
+
+    /// Looks at the sockets that were found full, if the last look is `LOOK_EVERY` milliseconds ago.
+    fn look(&mut self) {
+        if self.shown.saturating_sub(self.looked) < LOOK_EVERY {
+            return;
+        }
+        self.looked = self.shown;
+        for socket in &mut self.sockets {
+            socket.look(self.shown);
+        }
+    }
+
+    /// Returns the number of a socket whose peer a look found lost, if any is left to be told.
+    fn next_lost(&mut self) -> Option<u32> {
+        for socket in &mut self.sockets {
+            if socket.tells_loss() {
+                return Some(socket.number);
+            }
+        }
+        None
+    }
+
+    /// Returns how long a wait of `most` milliseconds may take: not past the next look, if a socket is to be looked at.
+    fn limited(&self, most: Option<u64>) -> Option<u64> {
+        if self.sockets.iter().any(|socket| socket.watch.is_due()) {
+            Some(most.unwrap_or(LOOK_EVERY).min(LOOK_EVERY))
+        } else {
+            most
+        }
     }
 
     /// Returns the index of a socket with this number. If the numbers rise, `None` says that no socket has the number.
@@ -185,6 +268,9 @@ impl<C: Clock + Drop> System for MioSystem<C> {
 
     fn read(&mut self, socket: u32, buffer: &mut [u8]) -> Result<usize, ErrorKind> {
         let socket = self.socket(socket)?;
+        if socket.watch.is_over() {
+            return Err(ErrorKind::TimedOut);
+        }
         match socket.stream.read(buffer) {
             Ok(count) => Ok(count),
             Err(fault) => Err(fault.kind()),
@@ -192,11 +278,8 @@ impl<C: Clock + Drop> System for MioSystem<C> {
     }
 
     fn write(&mut self, socket: u32, bytes: &[u8]) -> Result<usize, ErrorKind> {
-        let socket = self.socket(socket)?;
-        match socket.stream.write(bytes) {
-            Ok(count) => Ok(count),
-            Err(fault) => Err(fault.kind()),
-        }
+        let now = self.shown;
+        self.socket(socket)?.write(bytes, now)
     }
 
     fn shutdown(&mut self, socket: u32) {
@@ -213,6 +296,14 @@ impl<C: Clock + Drop> System for MioSystem<C> {
     }
 
     fn wait(&mut self, most: Option<u64>, ready: &mut [Ready]) -> usize {
+        self.look();
+        if let Some(number) = self.next_lost() {
+            if let Some(first) = ready.first_mut() {
+                *first = lost(number);
+                return 1;
+            }
+        }
+        let most = self.limited(most);
         let waited = self
             .poll
             .poll(&mut self.events, most.map(Duration::from_millis));
@@ -242,6 +333,17 @@ impl<C: Clock + Drop> System for MioSystem<C> {
     fn clock(&mut self) -> Option<u64> {
         self.shown = self.read_clock()?;
         Some(self.shown)
+    }
+}
+
+/// Returns how a socket is told ready whose peer is lost: a read and a write of it find that.
+fn lost(socket: u32) -> Ready {
+    Ready {
+        socket,
+        readable: true,
+        closed: true,
+        urgent: false,
+        writable: true,
     }
 }
 

@@ -51,8 +51,8 @@ pub(crate) struct Sockets<S: System> {
     turn: Turn,
     // The longest wait of a turn, in milliseconds, if a limit was set.
     most: Option<u64>,
-    // True if a line of a peer's share was kept back since the turn began: each peer then keeps the rest of its share.
-    starved: bool,
+    // The number of services so far: a peer came, or input of a peer was handed out.
+    services: u64,
     // The queues of the places that no peer has.
     spare: Vec<Queues>,
     ghost stands: { Stands system.log.steps peers.items listening last } by { Stands-prop _ _ _ _ },
@@ -72,7 +72,7 @@ impl<S: System> Sockets<S> {
         ensures trace { SaysOne self.old.system.log.steps (ExpectCall due slack) self.new.system.log.steps }
         ensures log { self.new.system.log.steps ≡ self.old.system.log.steps ++ Answers (ExpectCall due slack) ∷ [] }
         ensures turn { self.new.turn ≡ after_call self.old.turn (ExpectCall due slack) }
-        ensures keeps { (self.new.starved ≡ self.old.starved) × (self.new.most ≡ self.old.most)
+        ensures keeps { (self.new.services ≡ self.old.services) × (self.new.most ≡ self.old.most)
             × (self.new.last ≡ self.old.last) × (self.new.listening ≡ self.old.listening)
             × (self.new.peers ≡ self.old.peers) }
     {
@@ -83,7 +83,7 @@ impl<S: System> Sockets<S> {
     /// Limits how long a turn waits, in milliseconds.
     pub(crate) fn wait_at_most(&mut self, milliseconds: u64)
         ensures most { self.new.most ≡ Some milliseconds }
-        ensures keeps { (self.new.starved ≡ self.old.starved) × (self.new.last ≡ self.old.last)
+        ensures keeps { (self.new.services ≡ self.old.services) × (self.new.last ≡ self.old.last)
             × (self.new.listening ≡ self.old.listening) × (self.new.peers ≡ self.old.peers)
             × (self.new.turn ≡ self.old.turn) }
         ensures system { self.new.system ≡ self.old.system }
@@ -106,7 +106,7 @@ impl<S: System> Sockets<S> {
             recent: _,
             turn,
             most: _,
-            starved: _,
+            services: _,
             spare: _,
         } = self;
         let until = turn.clock.saturating_add(LINGER);
@@ -122,7 +122,8 @@ impl<S: System> Sockets<S> {
         requires turn { turn ≡ first_turn turn.timekeeper.wall turn.timekeeper.start }
         ensures { IfOk result (λ sockets. (sockets.system.system ≡ system) × (sockets.system.log.steps ≡ [])
             × (sockets.turn ≡ turn) × (vec_capacity sockets.peers ≡ most_peers) × (sockets.most ≡ None)
-            × (sockets.last ≡ 0) × (sockets.listening ≡ Listening.Ready)) }
+            × (sockets.last ≡ 0) × (sockets.listening ≡ Listening.Ready) × (sockets.services ≡ 0)
+            × (length sockets.peers.items ≡ 0)) }
     {
         Ok(Sockets {
             system: Logged::new(system),
@@ -132,7 +133,7 @@ impl<S: System> Sockets<S> {
             recent: 0,
             turn,
             most: None,
-            starved: false,
+            services: 0,
             spare: make_queues(alloc)?,
         })
     }
@@ -143,7 +144,7 @@ impl<S: System> Sockets<S> {
         ensures trace { SaysOne self.old.system.log.steps (CloseCall number result) self.new.system.log.steps }
         ensures log { self.new.system.log.steps ≡ self.old.system.log.steps ++ Answers (CloseCall number result) ∷ [] }
         ensures turn { self.new.turn ≡ after_call self.old.turn (CloseCall number result) }
-        ensures keeps { (self.new.starved ≡ self.old.starved) × (self.new.most ≡ self.old.most)
+        ensures keeps { (self.new.services ≡ self.old.services) × (self.new.most ≡ self.old.most)
             × (self.new.last ≡ self.old.last) × (self.new.listening ≡ self.old.listening) }
         ensures fault { IfErr result (λ fault. fault ≡ DoorFault.Close) }
         ensures shares { AreFrom KeepsShare self.old.peers.items self.new.peers.items }
@@ -168,7 +169,7 @@ impl<S: System> Sockets<S> {
         ensures left { AreFrom KeepsRest self.old.peers.items self.new.peers.items }
         ensures last { self.new.last ≡ self.old.last }
         ensures times { KeepsTimes self.old.system.log.steps self.new.system.log.steps }
-        ensures keeps { (self.new.turn ≡ self.old.turn) × (self.new.starved ≡ self.old.starved)
+        ensures keeps { (self.new.turn ≡ self.old.turn) × (self.new.services ≡ self.old.services)
             × (self.new.most ≡ self.old.most) × (self.new.listening ≡ self.old.listening) }
         ensures closed { AreClosedUp self.old.turn.clock self.new.peers.items
             self.old.system.log.steps self.new.system.log.steps }
@@ -194,7 +195,7 @@ impl<S: System> Sockets<S> {
         ensures left { AreFrom KeepsRest self.old.peers.items self.new.peers.items }
         ensures last { self.new.last ≡ self.old.last }
         ensures times { KeepsTimes self.old.system.log.steps self.new.system.log.steps }
-        ensures keeps { (self.new.turn ≡ self.old.turn) × (self.new.starved ≡ self.old.starved)
+        ensures keeps { (self.new.turn ≡ self.old.turn) × (self.new.services ≡ self.old.services)
             × (self.new.most ≡ self.old.most) }
         ensures heard { self.new.listening ≡ self.old.listening }
         ensures closed { Makes is_close 1 self.old.system.log.steps self.new.system.log.steps }
@@ -219,7 +220,7 @@ impl<S: System> Sockets<S> {
         ensures trace { SaysOne self.old.system.log.steps (NowCall result) self.new.system.log.steps }
         ensures fault { IfErr result (λ fault. fault ≡ DoorFault.Now) }
         ensures clock { IsClocked self.old.turn result self.old.system.log.steps self.new.system.log.steps }
-        ensures starved { self.new.starved ≡ self.old.starved }
+        ensures services { self.new.services ≡ self.old.services }
         ensures clocks { (self.new.turn.timekeeper.wall ≡ self.old.turn.timekeeper.wall)
             × (self.new.turn.timekeeper.start ≡ self.old.turn.timekeeper.start) }
         ensures keeps { (self.new.most ≡ self.old.most) × (self.new.last ≡ self.old.last)
@@ -288,7 +289,7 @@ impl<S: System> Sockets<S> {
         ensures fault { IfErr result (λ fault. fault ≡ DoorFault.Write) }
         ensures exact { IsPeerWritten self.old.peers.items number bytes.now result }
         ensures shares { AreFrom KeepsShare self.old.peers.items self.new.peers.items }
-        ensures keeps { (self.new.starved ≡ self.old.starved) × (self.new.most ≡ self.old.most)
+        ensures keeps { (self.new.services ≡ self.old.services) × (self.new.most ≡ self.old.most)
             × (self.new.last ≡ self.old.last) × (self.new.listening ≡ self.old.listening) }
     {
         let Some(index) = self.index_of(number) else {

@@ -145,8 +145,9 @@ fn turns_away_who_finds_no_slot(rt: HostRuntime) -> Result<(), Fail> {
 #[test]
 fn hands_out_as_many_lines_as_panels_take(rt: HostRuntime) -> Result<(), Fail> {
     let mut commands = Vec::new(rt.alloc());
-    // Lines of 32 bytes: no piece of 256 bytes ends within a line. What 96 of them tell a panel is written at once.
-    for _ in 0..32 {
+    // Lines of 32 bytes: a share has 8 of them whole. What 96 of them tell a panel is written at once. With a second
+    // share for each session, a write would hold the lines of two turns.
+    for _ in 0..8 {
         commands.extend_from_slice(b"SET 1 POWER ON 1234567890123456\n")?;
     }
     let mut events = Vec::new(rt.alloc());
@@ -166,7 +167,7 @@ fn hands_out_as_many_lines_as_panels_take(rt: HostRuntime) -> Result<(), Fail> {
     let entries = door.system().entries()?;
     // Three lines of the handshake, and the rows of the panel's session, of POWER and of the sensor. Then a row of
     // each other session, and each change.
-    assert_eq!(rt; lines_in(&took_of(rt.alloc(), entries, 1)?), 798);
+    assert_eq!(rt; lines_in(&took_of(rt.alloc(), entries, 1)?), 222);
     assert_eq!(rt; most_lines(entries, 1), 96);
     Ok(())
 }

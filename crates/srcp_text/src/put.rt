@@ -1,67 +1,47 @@
 //! Bytes, numbers and moments, put at the end of a line that is being written.
 
-ghost use Rattle.std.specs.Prelude.{◌≡◌, ◌<◌, ◌+◌, ◌≤◌, ◌++◌, length, decimal};
+ghost use Rattle.std.specs.Prelude.{◌≡◌, ◌+◌, ◌≤◌, ◌++◌, length, decimal};
+ghost use Rattle.arrayvec.specs.ArrayVec.{array_vec_len};
 ghost use Rattle.srcp_text.specs.Stamp.{stamp};
 
-use crate::written::WrittenLine;
+use arrayvec::ArrayVec;
 
 /// The most bytes of a line that is written.
 pub const LONGEST_WRITTEN: usize = 256;
 
 /// Holds a line while its bytes are written. The bytes stand in the value itself: no memory is allocated.
-pub type LineBuf = WrittenLine<LONGEST_WRITTEN>;
+pub type LineBuf = ArrayVec<u8, LONGEST_WRITTEN>;
 
 /// Appends bytes as they are. The line must have capacity for these bytes.
-pub fn put_bytes<const N: usize>(bytes: &[u8], line: &mut WrittenLine<N>)
-    requires { length line.old + length bytes.now ≤ N }
-    ensures { line.new ≡ line.old ++ bytes.now }
+#[inline(always)]
+pub fn put_bytes<const N: usize>(bytes: &[u8], line: &mut ArrayVec<u8, N>)
+    requires { array_vec_len line.old + length bytes.now ≤ N }
+    ensures { line.new.items ≡ line.old.items ++ bytes.now }
 {
-    line.extend(bytes);
+    line.try_extend_from_slice(bytes).unwrap();
 }
 
 /// Appends a number in decimal, without leading zeros. The line must have capacity for the digits, at most 20 bytes.
 #[inline]
-pub fn put_number<const N: usize>(number: u64, line: &mut WrittenLine<N>)
-    requires { length line.old + length (decimal number) ≤ N }
-    ensures { line.new ≡ line.old ++ decimal number }
+pub fn put_number<const N: usize>(number: u64, line: &mut ArrayVec<u8, N>)
+    requires { array_vec_len line.old + length (decimal number) ≤ N }
+    ensures { line.new.items ≡ line.old.items ++ decimal number }
 {
     if number < 10 {
         line.push(b'0' + number as u8);
     } else if number < 100 {
-        line.push_all(&[b'0' + (number / 10) as u8, b'0' + (number % 10) as u8]);
-    } else if number < 1000 {
-        line.push_all(&[
-            b'0' + (number / 100) as u8,
-            b'0' + (number / 10 % 10) as u8,
-            b'0' + (number % 10) as u8,
-        ]);
-    } else if number < 10_000 {
-        put_four_digits(number, line);
+        line.push(b'0' + (number / 10) as u8);
+        line.push(b'0' + (number % 10) as u8);
     } else {
         put_long_number(number, line);
     }
 }
 
-/// Appends a number of four digits. A call of its own keeps the code of shorter numbers small.
+/// Appends a number of three digits or more. A call of its own spares shorter numbers the buffer.
 #[inline(never)]
-fn put_four_digits<const N: usize>(number: u64, line: &mut WrittenLine<N>)
-    requires digits { (1000 ≤ number) × (number < 10000) }
-    requires fits { length line.old + length (decimal number) ≤ N }
-    ensures { line.new ≡ line.old ++ decimal number }
-{
-    line.push_all(&[
-        b'0' + (number / 1000) as u8,
-        b'0' + (number / 100 % 10) as u8,
-        b'0' + (number / 10 % 10) as u8,
-        b'0' + (number % 10) as u8,
-    ]);
-}
-
-/// Appends a number of five digits or more. A call of its own spares shorter numbers the buffer.
-#[inline(never)]
-fn put_long_number<const N: usize>(number: u64, line: &mut WrittenLine<N>)
-    requires { length line.old + length (decimal number) ≤ N }
-    ensures { line.new ≡ line.old ++ decimal number }
+fn put_long_number<const N: usize>(number: u64, line: &mut ArrayVec<u8, N>)
+    requires { array_vec_len line.old + length (decimal number) ≤ N }
+    ensures { line.new.items ≡ line.old.items ++ decimal number }
 {
     let mut digits = [0; 20];
     let start = itoa::write_digits(number, &mut digits, 20);
@@ -71,16 +51,19 @@ fn put_long_number<const N: usize>(number: u64, line: &mut WrittenLine<N>)
 /// Appends the stamp of a moment of `moment` milliseconds, as `12.050`: the seconds in decimal, a point, and the
 /// remaining milliseconds in three digits. The line must have capacity for the stamp, at most 21 bytes.
 #[inline(always)]
-pub fn put_stamp<const N: usize>(moment: u64, line: &mut WrittenLine<N>)
-    requires { length line.old + length (stamp moment) ≤ N }
-    ensures { line.new ≡ line.old ++ stamp moment }
+pub fn put_stamp<const N: usize>(moment: u64, line: &mut ArrayVec<u8, N>)
+    requires { array_vec_len line.old + length (stamp moment) ≤ N }
+    ensures { line.new.items ≡ line.old.items ++ stamp moment }
 {
     put_number(moment / 1000, line);
     let thousandths = moment % 1000;
-    line.push_all(&[
-        b'.',
-        b'0' + (thousandths / 100) as u8,
-        b'0' + (thousandths / 10 % 10) as u8,
-        b'0' + (thousandths % 10) as u8,
-    ]);
+    put_bytes(
+        &[
+            b'.',
+            b'0' + (thousandths / 100) as u8,
+            b'0' + (thousandths / 10 % 10) as u8,
+            b'0' + (thousandths % 10) as u8,
+        ],
+        line,
+    );
 }

@@ -5,6 +5,7 @@ ghost use Rattle.srcp_text.specs.Marks.{is_lf, marks, without_cr};
 ghost use Rattle.srcp_text.specs.Reading.{StandsAt, after_lf, extended, nothing_read};
 ghost use Rattle.srcp_text.specs.Feeding.{feed_of, fed_at, is_line, new_marks, next_stop, stop_of, consumed};
 
+use arrayvec::ArrayVec;
 use memchr::memchr;
 use std::marker::Model;
 
@@ -52,23 +53,17 @@ enum State {
 /// ```
 #[derive(Debug, Drop)]
 pub struct LineReader {
-    // The first `len` bytes are those of the line.
-    bytes: [u8; LONGEST_READ],
-    len: usize,
+    bytes: ArrayVec<u8, LONGEST_READ>,
     state: State,
 }
 
 impl Model for LineReader {
-    ghost use Rattle.std.specs.Prelude.{◌≡◌, ◌≤◌, length, take};
     ghost use Rattle.srcp_text.specs.Reading.{Reading};
     ghost use Rattle.srcp_text.specs.Reader.{reading_of};
-    ghost use Rattle.srcp_text.specs.declared.reader.TheConstants.{LONGEST_READ};
 
     ghost Value = { Reading };
 
-    ghost view = { λ reader. reading_of reader.state (take reader.len reader.bytes) };
-
-    ghost invariant = { λ reader. (reader.len ≤ LONGEST_READ) × (length reader.bytes ≡ LONGEST_READ) };
+    ghost view = { λ reader. reading_of reader.state reader.bytes.items };
 }
 
 impl LineReader {
@@ -77,8 +72,7 @@ impl LineReader {
         ensures { result ≡ nothing_read }
     {
         LineReader {
-            bytes: [0; LONGEST_READ],
-            len: 0,
+            bytes: ArrayVec::new(),
             state: State::Begun,
         }
     }
@@ -118,7 +112,7 @@ impl LineReader {
         ensures { result.now ≡ self.now.line }
     {
         match self.state {
-            State::Found => without_cr(&self.bytes[..self.len]),
+            State::Found => without_cr(&self.bytes),
             _ => &[],
         }
     }
@@ -127,19 +121,15 @@ impl LineReader {
     fn append(&mut self, more: &[u8])
         ensures { self.new ≡ record { begun = extended self.old.begun more.now; line = [] } }
     {
-        let kept = match self.state {
+        match self.state {
             State::TooLong => return,
-            State::Found => 0,
-            State::Begun => self.len,
-        };
-        let len = kept + more.len();
-        if len > LONGEST_READ {
-            self.state = State::TooLong;
-            return;
+            State::Found => self.bytes.clear(),
+            State::Begun => {}
         }
-        self.bytes[kept..len].copy_from_slice(more);
-        self.len = len;
-        self.state = State::Begun;
+        self.state = match self.bytes.try_extend_from_slice(more) {
+            Ok(()) => State::Begun,
+            Err(_) => State::TooLong,
+        };
     }
 
     // Ends the begun line. `stop` is the offset after its LF.
@@ -150,7 +140,7 @@ impl LineReader {
     {
         match self.state {
             State::TooLong => {
-                self.len = 0;
+                self.bytes.clear();
                 self.state = State::Begun;
                 Fed::TooLong { stop }
             }

@@ -1,13 +1,14 @@
 //! Stamps, numbers and bytes, put at the end of a line.
 
-ghost use Rattle.std.specs.Prelude.{◌≤◌, length};
+ghost use Rattle.std.specs.Prelude.{◌≤◌};
+ghost use Rattle.arrayvec.specs.ArrayVec.{array_vec_len};
 
 use srcp_text::{LineBuf, put_bytes, put_number, put_stamp};
 use std::test::Fail;
 
 #[tactic(auto, using(crate::proofs::Rooms::rooms))]
 fn stamped(moment: u64) -> LineBuf
-    ensures { length result ≤ 21 }
+    ensures { array_vec_len result ≤ 21 }
 {
     let mut line = LineBuf::new();
     put_stamp(moment, &mut line);

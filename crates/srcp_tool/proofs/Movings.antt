@@ -2,7 +2,8 @@
 use Rattle.std.proofs.Common.{◌≡◌, ◌∙◌, ℕ, ◌+◌, ◌-◌, ◌≤◌, List, [], ◌∷◌, ◌++◌, take, drop, Option, Some, None}
 use Rattle.std.proofs.Common.{Result, Ok, Err, refl, ap, sym, subst}
 use Rattle.std.proofs.Common.{arith, append_assoc, take-add}
-use Rattle.std.specs.Prelude.{slice_range, unwrap_or}
+use Rattle.std.specs.Prelude.{Bool, true, false, if◌then◌else◌, is_some, option_map, slice_range, unwrap_or}
+use Rattle.std.specs.Option.{option_map_or}
 use Rattle.std.specs.Io.KnownBytes.{Appends, Consumes, IsAtEnd}
 use Rattle.std.specs.Prelude.{IfSome, length}
 use Rattle.std.specs.Result.{IsErrAnd}
@@ -12,7 +13,9 @@ use Rattle.srcp_text.specs.Marks.{Mark, Line, TooLong, marks}
 use Rattle.srcp_text.specs.Reading.{Reading, StandsAt, nothing_read}
 use Rattle.srcp_routes.specs.declared.interlocking.Event.{Event}
 use Rattle.srcp_routes.specs.declared.route.Route.{Route}
-use Rattle.srcp_interlock.specs.Boxes.{Box, TakesIn, box_after, box_of, box_sends}
+use Rattle.srcp_routes.specs.Steps.{step}
+use Rattle.srcp_interlock.specs.Boxes.{Box, TakesIn, box_after, box_of, box_sends, counted}
+use Rattle.srcp_interlock.specs.Orders.{order_line}
 use Rattle.srcp_tool.specs.Interlocking.{Answers, AnswersAll, AnswersFront, AppendsFront, AreHeard, Interlocks, SendsText, sends_over}
 use Rattle.srcp_tool.specs.Output.{AppendsPrefix, WritesText}
 use Rattle.srcp_tool.specs.Moving.{Moves, TakesAll, TakesFront, TakesPiece, box_over}
@@ -85,6 +88,30 @@ pub moves_on : (r0 r1 r2 : Reading) (b0 b1 b2 : Box) (xs ys s t : List ℕ) → 
 moves_on r0 r1 r2 b0 b1 b2 xs ys s t one two =
     moves_behind r0 r1 r2 b0 b2 xs ys s t b1 one (subst (λ (b : Box). Moves r1 b ys r2 b2 t) one.box two)
 
+-- ---- a line that tells of no event
+
+none_counted : (begun : Bool) → counted begun None ≡ None
+none_counted true = refl
+none_counted false = refl
+
+none_after : (b : Box) → box_after b None ≡ b
+none_after b =
+    ap
+    (λ (event : Option Event). record b {
+      begun = if is_some event then true else b.begun;
+      table = (option_map_or (step b.table) event (record { table = b.table; order = None })).table;
+    })
+    (none_counted b.begun)
+
+none_sent : (b : Box) → sends_over b (None ∷ []) ≡ []
+none_sent b =
+    ap
+    (λ (event : Option Event).
+    unwrap_or
+    (option_map (order_line b.own) (option_map_or (step b.table) event (record { table = b.table; order = None })).order) []
+    ++ [])
+    (none_counted b.begun)
+
 -- ---- a feed, by what it finds
 
 module _ (reading on : Reading) (b : Box) (bytes : List ℕ)
@@ -94,8 +121,15 @@ module _ (reading on : Reading) (b : Box) (bytes : List ℕ)
 
   pub moves_too_long : ((fed : List ℕ) → StandsAt fed reading → marks (fed ++ bytes) ≡ marks fed ++ TooLong ∷ [])
       → Moves reading b bytes on b []
-  moves_too_long finds =
-      record { found = TooLong ∷ []; finds = finds; stands = stands; heard = None ∷ []; each = (refl, tt); box = refl; same = refl }
+  moves_too_long finds = record {
+    found = TooLong ∷ [];
+    finds = finds;
+    stands = stands;
+    heard = None ∷ [];
+    each = (refl, tt);
+    box = sym (none_after b);
+    same = sym (none_sent b);
+  }
 
   pub moves_line : (line : List ℕ) (after : Box) (sent : Option (List ℕ))
       → ((fed : List ℕ) → StandsAt fed reading → marks (fed ++ bytes) ≡ marks fed ++ Line line ∷ []) → TakesIn b line after sent

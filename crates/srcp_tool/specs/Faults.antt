@@ -21,9 +21,9 @@ fault_text (fault.Script at) = script_text at.line at.cause
 fault_text (fault.Line line) = codes "mirror line " ++ decimal line ++ codes ": not an information line"
 fault_text fault.Memory = codes "out of memory"
 fault_text (fault.Config what) = config_text what
-fault_text (fault.Plan what) = plan_text what
 fault_text fault.Unreadable = codes "cannot read the configuration"
 fault_text fault.Listen = codes "cannot listen"
+fault_text (fault.Plan what) = plan_text what
 
 -- why the program stops at a fault of a script: want of memory is a fault of its own, whatever the line
 abbrev pub stops_at : (line : ℕ) → Cause → ToolFault
@@ -64,6 +64,6 @@ fault_status (fault.Script at) = script_status at.cause
 fault_status (fault.Line line) = 2
 fault_status fault.Memory = 1
 fault_status (fault.Config what) = config_status what
-fault_status (fault.Plan what) = plan_status what
 fault_status fault.Unreadable = 1
 fault_status fault.Listen = 1
+fault_status (fault.Plan what) = plan_status what

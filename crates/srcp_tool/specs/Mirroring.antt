@@ -10,7 +10,7 @@ use Rattle.srcp_tool.specs.declared.stream.lines.MirroredLines.{MirroredLines}
 
 -- the line that has begun is this text, or it is known that the text is longer than any line of a change
 abbrev pub IsBegun : BegunLine → (text : List ℕ) → Type 0
-IsBegun begun text = MatchBool begun.too_long (longest_line < length text) (begun.bytes ≡ text)
+IsBegun begun text = MatchBool begun.too_long (longest_line < length text) (begun.bytes.items ≡ text)
 
 -- the whole lines of the input were applied, and the rest has begun
 pub record HasTaken (taken : MirroredLines) (input : List ℕ) : Type 0 where

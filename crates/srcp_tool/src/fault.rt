@@ -29,12 +29,12 @@ pub enum ToolFault {
     Memory,
     /// The configuration is refused.
     Config(ConfigFault),
-    /// The plan is refused.
-    Plan(PlanFault),
     /// The configuration, or the plan, cannot be read.
     Unreadable,
     /// The port cannot be listened on.
     Listen,
+    /// The plan is refused.
+    Plan(PlanFault),
 }
 
 impl fmt::Display for ToolFault {
@@ -49,9 +49,9 @@ impl fmt::Display for ToolFault {
             ToolFault::Line(line) => { write!(f, "mirror line {line}: not an information line") }
             ToolFault::Memory => write!(f, "out of memory"),
             ToolFault::Config(fault) => write!(f, "{fault}"),
-            ToolFault::Plan(fault) => write!(f, "{fault}"),
             ToolFault::Unreadable => write!(f, "cannot read the configuration"),
             ToolFault::Listen => write!(f, "cannot listen"),
+            ToolFault::Plan(fault) => write!(f, "{fault}"),
         }
     }
 }

@@ -7,6 +7,7 @@ ghost use Rattle.srcp_log.specs.Asked.{IsExcused, MayAnswer};
 ghost use Rattle.srcp_log.specs.Doors.{is_quiet};
 ghost use Rattle.srcp_log.specs.Limits.{most_peers};
 ghost use Rattle.srcp_log.specs.Loads.{AnswersWithin};
+ghost use Rattle.srcp_log.specs.Services.{made_after};
 ghost use Rattle.srcp_log.specs.Work.{AreFrom, IsAccepting, IsFrom, FreesPlace, is_crowded, last_after};
 ghost use Rattle.srcp_log.specs.Work.{may_accept};
 ghost use Rattle.srcp_peers.specs.Peers.{KeepsShare};
@@ -39,8 +40,11 @@ impl<S: System> Sockets<S> {
             self.old.system.log.steps self.new.system.log.steps }
         ensures turn { self.new.turn ≡ after_call self.old.turn (AcceptCall result) }
         ensures next { (number : ℕ) → result ≡ Ok (Some number) → number ≡ self.old.last + 1 }
-        ensures keeps { (self.new.starved ≡ self.old.starved) × (self.new.most ≡ self.old.most) }
+        ensures most { self.new.most ≡ self.old.most }
+        ensures services { self.new.services ≡ made_after (AcceptCall result) self.old.services }
         ensures last { self.new.last ≡ last_after self.old.last result }
+        ensures came { (number : ℕ) → result ≡ Ok (Some number)
+            → All (λ peer. peer.number ≡ number → peer.served ≡ self.new.services) self.new.peers.items }
         ensures shares { All (λ peer. peer.number ≤ self.old.last
             → IsFrom KeepsShare self.old.peers.items peer) self.new.peers.items }
         ensures quiet { is_quiet self.old.listening ≡ true → (self.new.listening ≡ self.old.listening)
@@ -69,7 +73,7 @@ impl<S: System> Sockets<S> {
         ensures last { self.new.last ≡ self.old.last }
         ensures is { result ≡ may_accept self.old.listening self.old.peers.items }
         ensures excused { result ≡ false → IsExcused self.new.system.log.steps }
-        ensures keeps { (self.new.starved ≡ self.old.starved) × (self.new.most ≡ self.old.most)
+        ensures keeps { (self.new.services ≡ self.old.services) × (self.new.most ≡ self.old.most)
             × (self.new.turn ≡ self.old.turn) }
         ensures shares { AreFrom KeepsShare self.old.peers.items self.new.peers.items }
         ensures same { result ≡ true → (self.new.listening ≡ self.old.listening) × (self.new.last ≡ self.old.last)
@@ -102,7 +106,7 @@ impl<S: System> Sockets<S> {
         ensures same { result ≡ answer }
         ensures turn { self.new.turn ≡ after_call self.old.turn (AcceptCall result) }
         ensures listening { self.new.listening ≡ self.old.listening }
-        ensures keeps { (self.new.starved ≡ self.old.starved) × (self.new.most ≡ self.old.most)
+        ensures keeps { (self.new.services ≡ self.old.services) × (self.new.most ≡ self.old.most)
             × (self.new.peers ≡ self.old.peers) }
         ensures last { self.new.last ≡ last_after self.old.last result }
     {
@@ -121,17 +125,20 @@ impl<S: System> Sockets<S> {
         ensures exact { IsAccepting number result self.old.listening self.new.listening
             self.old.system.log.steps self.new.system.log.steps }
         ensures turn { self.new.turn ≡ after_call self.old.turn (AcceptCall result) }
-        ensures keeps { (self.new.starved ≡ self.old.starved) × (self.new.most ≡ self.old.most) }
+        ensures most { self.new.most ≡ self.old.most }
+        ensures services { self.new.services ≡ made_after (AcceptCall result) self.old.services }
         ensures last { self.new.last ≡ last_after self.old.last result }
+        ensures came { (number : ℕ) → result ≡ Ok (Some number)
+            → All (λ peer. peer.number ≡ number → peer.served ≡ self.new.services) self.new.peers.items }
         ensures shares { All (λ peer. peer.number ≤ self.old.last
             → IsFrom KeepsShare self.old.peers.items peer) self.new.peers.items }
     {
         match self.system.accept(number) {
             Ok(()) => {
                 let queues = self.spare.pop().unwrap();
-                self.peers
-                    .push(Peer::new(number, self.turn.clock, queues))
-                    .unwrap();
+                let service = self.services.saturating_add(1);
+                self.peers.push(Peer::new(number, service, queues)).unwrap();
+                self.services = service;
                 self.last = number;
                 self.system.answer(&Answer::Accept(Ok(Some(number))));
                 self.turn.note_accept(Ok(Some(number)));
@@ -162,7 +169,7 @@ impl<S: System> Sockets<S> {
         requires { is_quiet self.old.listening ≡ false }
         ensures calls { SaysNothing self.old.system.log.steps self.new.system.log.steps }
         ensures last { self.new.last ≡ self.old.last }
-        ensures keeps { (self.new.starved ≡ self.old.starved) × (self.new.most ≡ self.old.most)
+        ensures keeps { (self.new.services ≡ self.old.services) × (self.new.most ≡ self.old.most)
             × (self.new.turn ≡ self.old.turn) }
         ensures shares { AreFrom KeepsShare self.old.peers.items self.new.peers.items }
         ensures closes { (self.new.system.log.steps ≡ self.old.system.log.steps)

@@ -9,6 +9,7 @@ ghost use Rattle.srcp_log.specs.Waits.{AreFlushed, IsWaitDone};
 ghost use Rattle.srcp_log.specs.Work.{AreFrom, IsWaiting, WaitsAmong, goes_on};
 ghost use Rattle.std.specs.List.{list_any};
 ghost use Rattle.srcp_log.specs.Limits.{most_lingering, most_ready};
+ghost use Rattle.srcp_door.specs.Pacing.{is_short_pace};
 ghost use Rattle.srcp_peers.specs.Accounts.{is_short_wait};
 ghost use Rattle.srcp_peers.specs.Limits.{most_drained};
 ghost use Rattle.srcp_peers.specs.Peers.{IsShared, KeepsRest, KeepsShare, flushes_all, holds_input, is_resting};
@@ -44,15 +45,15 @@ impl<S: System> Sockets<S> {
         ensures heard { goes_on self.old.turn self.old.peers.items ≡ false
             → WaitsAmong self.old.turn self.old.most self.old.listening self.new.listening self.old.peers.items
             self.old.system.log.steps self.new.system.log.steps }
-        ensures shares { AreFrom (IsShared (not (self.old.starved || self.old.turn.late)) self.old.turn.clock)
+        ensures shares { AreFrom (IsShared (not (is_short_pace self.old.turn.pace || self.old.turn.late)))
             self.old.peers.items self.new.peers.items }
         ensures lines_left { All (λ peer. peer.lines_left
             ≡ lines_left_of (list_any holds_input self.old.peers.items) self.old.turn.slack) self.new.peers.items }
         ensures turn { self.new.turn ≡ record self.old.turn {
           busy = goes_on self.old.turn self.old.peers.items && self.old.turn.busy;
         } }
-        ensures reset { self.new.starved ≡ false }
-        ensures keeps { (self.new.most ≡ self.old.most) × (self.new.last ≡ self.old.last) }
+        ensures keeps { (self.new.most ≡ self.old.most) × (self.new.last ≡ self.old.last)
+            × (self.new.services ≡ self.old.services) }
     {
         let holds = self.holds_input();
         let held = self.goes_on(holds);
@@ -127,7 +128,7 @@ impl<S: System> Sockets<S> {
             self.old.listening self.new.listening self.old.system.log.steps self.new.system.log.steps }
         ensures shares { AreFrom KeepsShare self.old.peers.items self.new.peers.items }
         ensures turn { self.new.turn ≡ record self.old.turn { busy = held && self.old.turn.busy } }
-        ensures starved { self.new.starved ≡ self.old.starved }
+        ensures services { self.new.services ≡ self.old.services }
         ensures keeps { (self.new.most ≡ self.old.most) × (self.new.last ≡ self.old.last) }
     {
         if held {
@@ -146,7 +147,7 @@ impl<S: System> Sockets<S> {
         ensures out { AreFlushed (flushes_all what) self.new.system.log.steps }
         ensures left { AreFrom KeepsRest self.old.peers.items self.new.peers.items }
         ensures times { KeepsTimes self.old.system.log.steps self.new.system.log.steps }
-        ensures keeps { (self.new.turn ≡ self.old.turn) × (self.new.starved ≡ self.old.starved)
+        ensures keeps { (self.new.turn ≡ self.old.turn) × (self.new.services ≡ self.old.services)
             × (self.new.most ≡ self.old.most) × (self.new.last ≡ self.old.last)
             × (self.new.listening ≡ self.old.listening) }
     {
@@ -167,7 +168,7 @@ impl<S: System> Sockets<S> {
         ensures looked { has_waited self.new.system.log.steps ≡ true }
         ensures shares { AreFrom KeepsShare self.old.peers.items self.new.peers.items }
         ensures turn { self.new.turn ≡ after_wait self.old.turn }
-        ensures starved { self.new.starved ≡ self.old.starved }
+        ensures services { self.new.services ≡ self.old.services }
         ensures keeps { (self.new.most ≡ self.old.most) × (self.new.last ≡ self.old.last) }
     {
         let most = self.longest_wait();
@@ -177,16 +178,15 @@ impl<S: System> Sockets<S> {
         self.turn.wait();
     }
 
-    /// Returns whether each share is a whole piece again. Shares stay if a line of a share was kept back in the turn
-    /// before. Shares stay behind a late turn too, since a late turn hands out nothing.
+    /// Returns whether each share is a whole piece again: at the end of the turn before, every line might go. If not
+    /// every line might, a line may have been kept back. A late turn hands out nothing.
     fn renews_shares(&self) -> bool
-        ensures { result ≡ not (self.now.starved || self.now.turn.late) }
+        ensures { result ≡ not (is_short_pace self.now.turn.pace || self.now.turn.late) }
     {
-        !(self.starved || self.turn.late)
+        !(self.turn.is_slow() || self.turn.late)
     }
 
-    /// Begins the visit of each peer; `holds` says whether input was held as the turn began. The share of a silent peer
-    /// always is a whole piece again.
+    /// Begins the visit of each peer; `holds` says whether input was held as the turn began.
     fn begin_visits(&mut self, holds: bool)
         ensures calls { SaysNothing self.old.system.log.steps self.new.system.log.steps }
         ensures most { GrowsBy (length self.old.peers.items) self.old.system.log.steps self.new.system.log.steps }
@@ -194,24 +194,21 @@ impl<S: System> Sockets<S> {
         ensures visited { AreVisited self.new.system.log.steps self.new.peers.items }
         ensures as_many { length self.new.peers.items ≡ length self.old.peers.items }
         ensures those { AreThose self.old.peers.items self.new.peers.items }
-        ensures shares { AreShared (not (self.old.starved || self.old.turn.late)) self.old.turn.clock
+        ensures shares { AreShared (not (is_short_pace self.old.turn.pace || self.old.turn.late))
             self.old.peers.items self.new.peers.items }
         ensures lines_left { All (λ peer. peer.lines_left ≡ lines_left_of holds self.old.turn.slack)
             self.new.peers.items }
         ensures times { KeepsTimes self.old.system.log.steps self.new.system.log.steps }
-        ensures reset { self.new.starved ≡ false }
         ensures keeps { (self.new.most ≡ self.old.most) × (self.new.last ≡ self.old.last)
-            × (self.new.listening ≡ self.old.listening) × (self.new.turn ≡ self.old.turn) }
+            × (self.new.listening ≡ self.old.listening) × (self.new.turn ≡ self.old.turn)
+            × (self.new.services ≡ self.old.services) }
     {
         let anew = self.renews_shares();
         let lines_left = self.lines_left(holds);
-        self.starved = false;
-        let clock = self.turn.clock;
         begin_visits(
             &mut self.system,
             self.peers.as_mut_slice(),
             anew,
-            clock,
             lines_left,
         );
     }

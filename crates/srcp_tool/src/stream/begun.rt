@@ -3,13 +3,14 @@
 ghost use Rattle.std.specs.Prelude.{◌≡◌, ◌<◌, ◌++◌, ℕ, List, [], length, MatchOption};
 ghost use Rattle.srcp_tool.specs.Mirroring.{IsBegun};
 
+use arrayvec::ArrayVec;
 use srcp_info::LONGEST_LINE;
-use srcp_text::WrittenLine;
+use srcp_text::put_bytes;
 
 /// Holds the bytes of a line without an LF yet, as far as they may be those of an information line.
 #[derive(Drop)]
 pub(super) struct BegunLine {
-    bytes: WrittenLine<LONGEST_LINE>,
+    bytes: ArrayVec<u8, LONGEST_LINE>,
     too_long: bool,
 }
 
@@ -19,7 +20,7 @@ impl BegunLine {
         ensures { IsBegun result [] }
     {
         BegunLine {
-            bytes: WrittenLine::new(),
+            bytes: ArrayVec::new(),
             too_long: false,
         }
     }
@@ -29,7 +30,7 @@ impl BegunLine {
         ensures { (before : List ℕ) → IsBegun self.old before → IsBegun self.new (before ++ text.now) }
     {
         if text.len() <= LONGEST_LINE - self.bytes.len() {
-            self.bytes.extend(text);
+            put_bytes(text, &mut self.bytes);
         } else {
             self.too_long = true;
         }

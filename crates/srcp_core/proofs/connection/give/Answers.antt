@@ -11,4 +11,4 @@ write_shown-requires g c =
     let told =
     subst IsTellable c.in-Some-list.ensures.listed
     (next_tellable (shown_rows (g.R.Rows.state c.args.rows.now)) c.args.feed.now c.requires.well_formed c.requires.shown) in
-    (omega arith, (told, (omega arith, c.clear.ensures)))
+    (omega arith, (told, (omega arith, c.new.ensures)))

@@ -1,5 +1,4 @@
 use Rattle.std.proofs.Common.{◌≡◌, ◌+◌, ◌∙◌, [], sym, subst, ap, refl, take, length, slice_index, length-drop, arith}
-use Rattle.std.proofs.lemmas.Bool.{eq-eqb, ne_eqb}
 use Rattle.std.proofs.Math.Seq.{take-length}
 use Rattle.std.proofs.lemmas.Grind.{common_steps}
 use Rattle.std.proofs.lemmas.List.{take_rest}
@@ -55,18 +54,6 @@ returns-then-next-most-clause-longest c =
       begun = λ none. absurd (omega (arith, none, behind));
     }
 
-pub returns-then-next-most-clause-more : goal.returns-then-next-most-clause-more
-returns-then-next-most-clause-more c =
-    let piece = c.args.piece.now in
-    let start = c.lines.prefix.count in
-    let end = start + c.in-Some.length in
-    let found = c.in-Some.ensures.0 in
-    let high = found-end piece start c.in-Some.length found in
-    let here : slice_index piece end ≡ 10 = grind (arith, common_steps) in
-    let same = lines_of_part piece start end (omega arith) (omega arith) (λ k low below. found.before k low (omega arith)) in
-    let behind = lines_behind piece start end high here same in
-    rw (ne_eqb c.lines.prefix.lines (lines piece) (omega (arith, behind, c.lines.invariant.lines))) refl
-
 pub returns-then-prefix-eq0-clause-longest : goal.returns-then-prefix-eq0-clause-longest
 returns-then-prefix-eq0-clause-longest c =
     let piece = c.args.piece.now in
@@ -85,13 +72,6 @@ returns-then-prefix-eq0-clause-longest c =
       begun = λ e. refl;
     }
 
-pub returns-then-prefix-eq0-clause-lines : goal.returns-then-prefix-eq0-clause-lines
-returns-then-prefix-eq0-clause-lines c =
-    let piece = c.args.piece.now in
-    c.lines.invariant.lines
-    ∙ lines_of_part piece c.lines.prefix.count (length piece) (omega arith) (omega arith)
-    (λ k low below. c.in_default.ensures k low (rw take_rest (rw length-drop below)))
-
 pub returns-then-prefix-eq0-clause-weight : goal.returns-then-prefix-eq0-clause-weight
 returns-then-prefix-eq0-clause-weight c =
     let piece = c.args.piece.now in
@@ -101,14 +81,6 @@ returns-then-prefix-eq0-clause-weight c =
     let before = weight_none c.args.line (take start piece) (omega (arith, c.lines.invariant.lines)) in
     let all = weight_none c.args.line (take (length piece) piece) (omega (arith, same, c.lines.invariant.lines)) in
     ap (λ (s : Seen). s.weight) c.lines.invariant.seen ∙ before ∙ sym all
-
-pub returns-then-prefix-eq0-clause-more : goal.returns-then-prefix-eq0-clause-more
-returns-then-prefix-eq0-clause-more c =
-    let piece = c.args.piece.now in
-    let same = lines_of_part piece c.lines.prefix.count (length piece) (omega arith) (omega arith)
-    (λ k low below. c.in_default.ensures k low (rw take_rest (rw length-drop below))) in
-    let is : c.lines.prefix.lines ≡ lines piece = c.lines.invariant.lines ∙ same ∙ ap lines (take-length piece) in
-    rw (eq-eqb c.lines.prefix.lines (lines piece) is) refl
 
 pub returns-else-prefix-eq0-clause-longest : goal.returns-else-prefix-eq0-clause-longest
 returns-else-prefix-eq0-clause-longest c =
@@ -126,14 +98,6 @@ returns-else-prefix-eq0-clause-longest c =
       whole = λ some. sym (ap (λ (s : Seen). s.text) seen);
       begun = λ none. absurd (omega (arith, none, same, all, c.lines.invariant.lines));
     }
-
-pub returns-else-prefix-eq0-clause-more : goal.returns-else-prefix-eq0-clause-more
-returns-else-prefix-eq0-clause-more c =
-    let piece = c.args.piece.now in
-    let same = lines_of_part piece c.lines.prefix.count (length piece) (omega arith) (omega arith)
-    (λ k low below. c.in_default.ensures k low (rw take_rest (rw length-drop below))) in
-    let is : c.lines.prefix.lines ≡ lines piece = c.lines.invariant.lines ∙ same ∙ ap lines (take-length piece) in
-    rw (eq-eqb c.lines.prefix.lines (lines piece) is) refl
 
 pub returns-then-next-most-clause-next : goal.returns-then-next-most-clause-next
 returns-then-next-most-clause-next c = λ zero.

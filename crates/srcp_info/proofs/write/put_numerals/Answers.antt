@@ -6,7 +6,7 @@ use Rattle.srcp_info.proofs.write.put_numerals.Goals as goal
 pub put_numeral-requires : goal.put_numeral-requires
 put_numeral-requires g c =
     let room =
-    room_next decimal c.args.numbers.now c.loop-number.number-index 0 _ c.loop-number.buffer g.row.N c.loop-number-test.true
+    room_next decimal c.args.numbers.now c.loop-number.number-index 0 _ c.loop-number.buffer.items g.row.N c.loop-number-test.true
     c.loop-number.invariant
-    (omega (arith, c.requires, length-append c.args.buffer.now)) in
+    (omega (arith, c.requires, length-append c.args.buffer.now.items)) in
     omega (arith, room)

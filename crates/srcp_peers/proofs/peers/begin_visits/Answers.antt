@@ -1,6 +1,7 @@
 use Rattle.std.proofs.Common.{◌≡◌, ap, arith}
 use Rattle.srcp_peers.specs.Ends.{begun}
 use Rattle.srcp_peers.specs.Peers.{IsShared, is_over}
+use Rattle.srcp_door.specs.declared.pacing.Share.{Share}
 use Rattle.srcp_peers.specs.declared.peer.Peer.{Peer}
 use Rattle.srcp_peers.proofs.OnePeerChanges.{calls_next, set_each, set_read, set_rest}
 use Rattle.srcp_peers.proofs.peers.begin_visits.Goals as goal
@@ -20,8 +21,8 @@ loop-peer-preserved g c =
       each = calls_next first peers i d p (omega arith) c.loop-peer.auto.peers was.each one.alone;
       most = omega (arith, was.most, one.alone.most);
       read = set_read old new peers i d p (omega arith) was.each.apart one.alone.number one.alone.others one.read was.read;
-      shared = set_each (IsShared c.args.anew c.args.clock) first peers i d p (omega arith)
-          (cc, ap (λ (x : Peer). x.heard) one.same) was.rest was.shared;
+      shared = set_each (IsShared c.args.anew) first peers i d p (omega arith)
+          (ap (λ (s : Share). s.rest) one.share, ap (λ (x : Peer). x.served) one.same) was.rest was.shared;
       lines_left = set_each (λ (x y : Peer). y.lines_left ≡ c.args.lines_left) first peers i d p (omega arith) (cc) was.rest
           was.lines_left;
       begun = set_each (λ (x y : Peer). (y.stay ≡ x.stay) × (y.ending ≡ begun x.ending (is_over y.incoming y.input)))

@@ -12,7 +12,7 @@ invariant-loop-peer g l = record {
   most : GrowsBy l.peer-index l.fn.system.log.steps l.system.log.steps;
   read : (k : ℕ) (d : Peer) → k < l.peer-index → IsRead l.system.log.steps (slice_index_or l.peers k d).number;
   shared : (k : ℕ) (d : Peer) → k < l.peer-index
-      → IsShared l.anew l.clock (slice_index_or l.fn.peers k d) (slice_index_or l.peers k d);
+      → IsShared l.anew (slice_index_or l.fn.peers k d) (slice_index_or l.peers k d);
   lines_left : (k : ℕ) (d : Peer) → k < l.peer-index → (slice_index_or l.peers k d).lines_left ≡ l.lines_left;
   begun : (k : ℕ) (d : Peer) → k < l.peer-index → (let p = slice_index_or l.peers k d in
       (p.stay ≡ (slice_index_or l.fn.peers k d).stay)

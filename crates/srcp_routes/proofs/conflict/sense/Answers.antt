@@ -10,6 +10,6 @@ loop-known-preserved c =
     let lt : c.loop-known.known-index < length c.args.sensors.now = omega arith in
     let lt' : c.loop-known.known-index < length c.loop-known.sensors = omega arith in
     rw c.told.ensures
-    (map_over_more (told_sensor c.args.sensor c.args.is_on) c.args.sensors.now c.loop-known.sensors c.loop-known.known-index
+    (map_over_more (told_sensor c.args.sensor c.args.occupancy) c.args.sensors.now c.loop-known.sensors c.loop-known.known-index
     (get_or c.loop-known.sensors c.loop-known.known-index _) lt c.loop-known.invariant
     (get_or_default c.loop-known.sensors c.loop-known.known-index _ _ lt'))

@@ -6,4 +6,4 @@ use Rattle.srcp_routes.proofs.conflict.sense.Given as goal
 
 abbrev pub invariant-loop-known : goal.invariant-loop-known
 invariant-loop-known l =
-    l.sensors ≡ map (told_sensor l.sensor l.is_on) (take l.known-index l.initial.sensors) ++ drop l.known-index l.initial.sensors
+    l.sensors ≡ map (told_sensor l.sensor l.occupancy) (take l.known-index l.initial.sensors) ++ drop l.known-index l.initial.sensors

@@ -15,7 +15,7 @@ pub returns-clause-kept : goal.returns-clause-kept
 returns-clause-kept g c =
     let p = c.args.self.now in
     let q = c.if-is_empty.self in
-    let answer = c.if-is_empty.outcome.got in
+    let answer = c.if-is_empty.got in
     let buffer = c.if-is_empty.buffer in
     let log = c.args.system.now.log.steps in
     let number : q.number ≡ p.number = search rules in
@@ -24,7 +24,7 @@ returns-clause-kept g c =
     let line : q.share.line ≡ line_after p.share.line (got_bytes answer buffer) =
     elim c.if-is_empty.branch [ then-is_empty w ↦ search rules | else-is_empty w ↦ search rules ] in
     let ended : answer ≡ Ok got.Ended → MayEnd p = elim c.if-is_empty.branch [
-      | then-is_empty w ↦ λ e. w.reported_end.ensures.ended (search rules) (nil_from_length p.incoming (search rules))
+      | then-is_empty w ↦ λ e. w.reported_end-got.ensures.ended (search rules) (nil_from_length p.incoming (search rules))
       | else-is_empty w ↦ search rules
     ] in
     let failed : OnErr answer (MayFail p) =

@@ -10,5 +10,6 @@ invariant-loop-n l =
     ≡ map lost_stage (take l.n l.self-inside.routes.items) ++ drop l.n l.initial.self-inside.stages.items)
     × (l.self-inside.routes ≡ l.initial.self-inside.routes)
     × (l.self-inside.wanted ≡ l.initial.self-inside.wanted)
+    × (l.self-inside.again ≡ l.initial.self-inside.again)
     × (l.self-inside.sensors ≡ l.initial.self-inside.sensors)
     × (l.self-inside.waiting ≡ l.initial.self-inside.waiting)

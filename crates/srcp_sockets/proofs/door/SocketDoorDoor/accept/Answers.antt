@@ -2,7 +2,8 @@ use Rattle.std.proofs.Common.{◌∙◌, ap}
 use Rattle.srcp_door.specs.Calls.{AcceptCall}
 use Rattle.srcp_peers.specs.Steps.{calls}
 use Rattle.srcp_log.proofs.AnswersAreBounded.{answered_more, says_answered}
-use Rattle.srcp_log.proofs.SharesAreWhole.{Comes, came_from, shares_called}
+use Rattle.srcp_log.proofs.ServicesAreCounted.{Comes, ordered_came}
+use Rattle.srcp_log.proofs.SharesAreWhole.{came_from, shares_called}
 use Rattle.std.proofs.Common.{refl}
 use Rattle.srcp_sockets.proofs.door.SocketDoorDoor.accept.Goals as goal
 
@@ -29,7 +30,9 @@ invariant_of-self-clause-shares g c =
     let old = was.system.log.steps in
     let log = new.system.log.steps in
     let comes : Comes old (AcceptCall answer) log = (now.answers.0, now.answers.1, now.answers.2) in
-    shares_called old log (AcceptCall answer) was.turn new.turn was.starved new.starved was.peers.items
-    new.peers.items comes refl (ap (λ turn. turn.timekeeper) now.turn) (ap (λ turn. turn.pace) now.turn) now.keeps.0
+    shares_called old log (AcceptCall answer) was.turn new.turn was.services new.services was.peers.items
+    new.peers.items comes refl (ap (λ turn. turn.timekeeper) now.turn) now.services
+    (ordered_came answer new.services was.last new.last was.peers.items new.peers.items now.next now.last new.stands.within now.came
+    now.shares)
     (came_from old log answer was.last new.last was.peers.items new.peers.items comes now.next now.last new.stands.within now.shares)
     c.args.self.now.shares

@@ -1,5 +1,6 @@
 use Rattle.srcp_door.specs.Calls.{ExpectCall}
 use Rattle.srcp_log.proofs.AnswersAreBounded.{answered_once}
+use Rattle.srcp_log.proofs.ServicesAreCounted.{unserved_all}
 use Rattle.srcp_log.proofs.SharesAreWhole.{comes_once, shares_called}
 use Rattle.srcp_log.proofs.PeersAreFrom.{from_same, share_stays}
 use Rattle.srcp_log.specs.Work.{AreFrom}
@@ -20,6 +21,7 @@ invariant_of-self-clause-shares g c =
     let from : AreFrom KeepsShare was.peers.items new.peers.items =
     subst (AreFrom KeepsShare was.peers.items) (sym (ap (λ peers. peers.items) now.keeps.4))
     (from_same KeepsShare share_stays was.peers.items) in
-    shares_called was.system.log.steps new.system.log.steps call was.turn new.turn was.starved new.starved was.peers.items
+    shares_called was.system.log.steps new.system.log.steps call was.turn new.turn was.services new.services was.peers.items
     new.peers.items (comes_once was.system.log.steps new.system.log.steps call now.log) refl (ap (λ turn. turn.timekeeper) now.turn)
-    (ap (λ turn. turn.pace) now.turn) now.keeps.0 (λ k d lt free. from k d lt) c.args.self.now.shares
+    now.keeps.0 (unserved_all call new.services was.peers.items new.peers.items refl from) (λ k d lt free. from k d lt)
+    c.args.self.now.shares

@@ -6,6 +6,7 @@ use Rattle.srcp_peers.proofs.QueuedIsOffered.{all_offered_more}
 use Rattle.srcp_log.specs.Doors.{flushed_in}
 use Rattle.srcp_log.proofs.AnswersAreBounded.{answered_more, answered_now}
 use Rattle.srcp_log.proofs.SharesAreWhole.{shares_now}
+use Rattle.srcp_door.specs.Pacing.{is_short_pace}
 use Rattle.srcp_log.specs.Work.{AreFrom}
 use Rattle.srcp_peers.specs.Peers.{IsShared}
 use Rattle.std.specs.Prelude.{◌||◌, not}
@@ -63,10 +64,10 @@ invariant_of-self-clause-shares g c =
     let new = c.now-answer.new.self in
     let clock = c.now-answer.ensures.clock in
     let turn = c.begin_turn.ensures.turn in
-    let Shared = IsShared (not (was.starved || was.turn.late)) was.turn.clock in
-    shares_now was.system.log.steps begun.system.log.steps new.system.log.steps was.turn begun.turn new.turn was.starved new.starved
+    let Shared = IsShared (not (is_short_pace was.turn.pace || was.turn.late)) in
+    shares_now was.system.log.steps begun.system.log.steps new.system.log.steps was.turn begun.turn new.turn was.services new.services
     was.peers.items new.peers.items clock.0 c.now-answer.result c.begin_turn.ensures.calls clock.2
     (ap (λ t. t.timekeeper) turn) (ap (λ t. t.pace) turn) (ap (λ t. t.late) turn) c.now-answer.ensures.clocks
-    (c.now-answer.ensures.starved ∙ c.begin_turn.ensures.reset) begun.timed
+    (c.now-answer.ensures.services ∙ c.begin_turn.ensures.keeps.2) begun.timed
     (subst (AreFrom Shared was.peers.items) (sym (ap (λ peers. peers.items) c.now-answer.ensures.keeps.3)) c.begin_turn.ensures.shares)
     c.args.self.now.shares

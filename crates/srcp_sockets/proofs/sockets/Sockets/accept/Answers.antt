@@ -24,6 +24,7 @@ use Rattle.srcp_peers.specs.declared.system.IoFailure.TheVariants.{WouldBlock, I
 use Rattle.srcp_peers.specs.declared.system.IoFailure.{IoFailure}
 use Rattle.std.specs.declared.io.ErrorKind.{ErrorKind}
 use Rattle.std.proofs.Common.{Err, Some}
+use Rattle.srcp_log.specs.Services.{made_after}
 use Rattle.srcp_sockets.proofs.sockets.Sockets.accept.Goals as goal
 
 pub returns-clause-answers : goal.returns-clause-answers
@@ -204,3 +205,21 @@ returns-then-not-may_accept-clause-turn g c = c.note_nobody.ensures.turn
 pub returns-in_default-clause-turn : goal.returns-in_default-clause-turn
 returns-in_default-clause-turn g c = c.note_nobody-in_default.ensures.turn
     ∙ ap (λ (t : Turn). after_call t (AcceptCall c.note_nobody-in_default.result)) c.may_accept.ensures.keeps.2
+
+pub returns-clause-services : goal.returns-clause-services
+returns-clause-services g c = c.accept_next.ensures.services
+    ∙ ap (made_after (AcceptCall c.accept_next.result)) c.may_accept.ensures.keeps.0
+
+pub returns-then-not-may_accept-clause-services : goal.returns-then-not-may_accept-clause-services
+returns-then-not-may_accept-clause-services g c = c.note_nobody.ensures.keeps.0 ∙ c.may_accept.ensures.keeps.0
+    ∙ sym (ap (λ a. made_after (AcceptCall a) c.args.self.now.services) c.note_nobody.ensures.same)
+
+pub returns-in_default-clause-services : goal.returns-in_default-clause-services
+returns-in_default-clause-services g c = c.note_nobody-in_default.ensures.keeps.0 ∙ c.may_accept.ensures.keeps.0
+    ∙ sym (ap (λ a. made_after (AcceptCall a) c.args.self.now.services) c.note_nobody-in_default.ensures.same)
+
+pub returns-then-not-may_accept-clause-came : goal.returns-then-not-may_accept-clause-came
+returns-then-not-may_accept-clause-came g c n is = let none = c.note_nobody.ensures.same in absurd (cc)
+
+pub returns-in_default-clause-came : goal.returns-in_default-clause-came
+returns-in_default-clause-came g c n is = let none = c.note_nobody-in_default.ensures.same in absurd (cc)

@@ -24,6 +24,9 @@ use Rattle.srcp_log.proofs.EndsAreTold.{far_pushed, far_same}
 use Rattle.srcp_peers.specs.Peers.{KeepsShare}
 use Rattle.srcp_peers.specs.declared.peer.Peer.{Peer}
 use Rattle.srcp_log.proofs.PeersAreFrom.{from_pushed, from_same, share_stays}
+use Rattle.std.specs.Prelude.{◌<◌, List, slice_index_or}
+use Rattle.std.proofs.lemmas.List.Elements.{All-push}
+use Rattle.srcp_log.specs.Services.{made_after}
 use Rattle.srcp_sockets.proofs.sockets.Sockets.accept_next.Goals as goal
 
 pub invariant_of-self : goal.invariant_of-self
@@ -38,7 +41,8 @@ invariant_of-self g c =
     let pushed : c.push.new.self.items ≡ self.peers.items ++ c.new.result ∷ [] = search rules in
     record {
       stands = stands_answered mid new c.push.new.self.items self.listening number call (λ s a. refl) c.answer.ensures.log
-          (stands_came old mid self.peers.items c.push.new.self.items c.new.result self.listening self.turn.clock self.last number
+          (stands_came old mid self.peers.items c.push.new.self.items c.new.result self.listening c.saturating_add-service.result
+          self.last number
           c.in-Ok.field-0 c.requires.next pushed c.new.ensures c.in-Ok.ensures.log self.stands);
       named = named_come mid new self.last number c.requires.next (says_call mid new call c.answer.ensures.log)
           (named_silent old mid self.last (says_step old mid (Accepts number said) c.in-Ok.ensures.log refl) self.named);
@@ -52,7 +56,8 @@ invariant_of-self g c =
           (done_step self.most self.turn.timekeeper.wall self.turn.timekeeper.start old mid (Accepts number said) c.in-Ok.ensures.log tt
           self.done));
       ending = far_same mid new c.push.new.self.items (Answers call) c.answer.ensures.log (λ s x. refl)
-          (far_pushed old mid self.peers.items c.push.new.self.items c.new.result self.turn.clock number c.in-Ok.field-0 pushed
+          (far_pushed old mid self.peers.items c.push.new.self.items c.new.result c.saturating_add-service.result number
+          c.in-Ok.field-0 pushed
           c.new.ensures c.in-Ok.ensures.log self.ending);
       places = (
         grind (arith, self.places.0, c.pop.ensures.cases, ap length pushed, length-append self.peers.items (c.new.result ∷ [])),
@@ -150,3 +155,33 @@ returns-in-Ok-clause-shares g c =
 
 pub returns-in-Err-clause-shares : goal.returns-in-Err-clause-shares
 returns-in-Err-clause-shares g c k d lt below = from_same KeepsShare share_stays c.args.self.now.peers.items k d lt
+
+-- who came has the number of the last service, and each before has another number
+pub returns-in-Ok-clause-came : goal.returns-in-Ok-clause-came
+returns-in-Ok-clause-came g c n is k d lt =
+    let self = c.args.self.now in
+    let served : c.new.result.served ≡ c.saturating_add-service.result = ap (λ (p : Peer). p.served) c.new.ensures in
+    let same : n ≡ c.args.number = cc in
+    let Came : Peer → Type 0 = λ p. p.number ≡ n → p.served ≡ c.saturating_add-service.result in
+    let each : (j : ℕ) (e : Peer) → j < length self.peers.items → Came (slice_index_or self.peers.items j e) =
+    λ j e low one. absurd (omega (arith, one, same, c.requires.next, (self.stands.within j e low).1)) in
+    let pushed : c.push.new.self.items ≡ self.peers.items ++ c.new.result ∷ [] = search rules in
+    subst (λ (qs : List Peer). k < length qs → Came (slice_index_or qs k d)) (sym pushed)
+    (All-push Came self.peers.items c.new.result each (λ one. served) k d) lt
+
+pub returns-in-Err-clause-came : goal.returns-in-Err-clause-came
+returns-in-Err-clause-came g c n is = absurd (none c.failure_of-said.result (sym is ∙ c.nobody-answer.ensures.answer))
+  where
+    none : (said : IoFailure) → Ok (Some n) ≡ failed_accept said → ⊥
+    none WouldBlock e = cc
+    none Interrupted e = cc
+    none Fatal e = cc
+
+made_nobody : (made : ℕ) (said : IoFailure) → made ≡ made_after (AcceptCall (failed_accept said)) made
+made_nobody made WouldBlock = refl
+made_nobody made Interrupted = refl
+made_nobody made Fatal = refl
+
+pub returns-in-Err-clause-services : goal.returns-in-Err-clause-services
+returns-in-Err-clause-services g c = made_nobody c.args.self.now.services c.failure_of-said.result
+    ∙ sym (ap (λ a. made_after (AcceptCall a) c.args.self.now.services) c.nobody-answer.ensures.answer)

@@ -1,5 +1,6 @@
 use Rattle.std.proofs.Common.{◌≡◌, ◌∙◌, ℕ, Bool, true, false, ap, refl, subst, sym, true≢false}
 use Rattle.std.specs.Prelude.{◌&&◌, ◌||◌, cond, not}
+use Rattle.srcp_door.specs.Pacing.{is_short_pace}
 use Rattle.srcp_peers.specs.declared.readiness.Flush.{Flush}
 use Rattle.srcp_peers.specs.declared.turn.Turn.{Turn}
 use Rattle.srcp_peers.specs.AllPeers.{AreOffered}
@@ -121,21 +122,18 @@ returns-clause-shares g c =
     let looked = c.poll_unless_held.new.self in
     let new = c.begin_visits.new.self in
     let begun = c.begin_visits.ensures in
-    let turn = ap (λ t. t.late) c.poll_unless_held.ensures.turn ∙ ap (λ t. t.late) c.close_gone.ensures.keeps.0
+    let late = ap (λ t. t.late) c.poll_unless_held.ensures.turn ∙ ap (λ t. t.late) c.close_gone.ensures.keeps.0
     ∙ ap (λ t. t.late) c.flush.ensures.keeps.0 in
-    let clock : looked.turn.clock ≡ was.turn.clock = ap (λ t. t.clock) c.poll_unless_held.ensures.turn
-    ∙ ap (λ t. t.clock) c.close_gone.ensures.keeps.0 ∙ ap (λ t. t.clock) c.flush.ensures.keeps.0 in
-    let starved : looked.starved ≡ was.starved = c.poll_unless_held.ensures.starved ∙ c.close_gone.ensures.keeps.1
-    ∙ c.flush.ensures.keeps.1 in
-    let anew : not (looked.starved || looked.turn.late) ≡ not (was.starved || was.turn.late) =
-    ap (λ s. not (s || looked.turn.late)) starved ∙ ap (λ l. not (was.starved || l)) turn in
-    subst (λ (a : Bool). AreFrom (IsShared a was.turn.clock) was.peers.items new.peers.items) anew
-    (subst (λ (t : ℕ). AreFrom (IsShared (not (looked.starved || looked.turn.late)) t) was.peers.items new.peers.items) clock
-    (all_shared (not (looked.starved || looked.turn.late)) looked.turn.clock was.peers.items gone.peers.items looked.peers.items
+    let pace = ap (λ t. t.pace) c.poll_unless_held.ensures.turn ∙ ap (λ t. t.pace) c.close_gone.ensures.keeps.0
+    ∙ ap (λ t. t.pace) c.flush.ensures.keeps.0 in
+    let anew : not (is_short_pace looked.turn.pace || looked.turn.late) ≡ not (is_short_pace was.turn.pace || was.turn.late) =
+    ap (λ p. not (is_short_pace p || looked.turn.late)) pace ∙ ap (λ l. not (is_short_pace was.turn.pace || l)) late in
+    subst (λ (a : Bool). AreFrom (IsShared a) was.peers.items new.peers.items) anew
+    (all_shared (not (is_short_pace looked.turn.pace || looked.turn.late)) was.peers.items gone.peers.items looked.peers.items
     new.peers.items
     (from_then KeepsRest KeepsRest KeepsRest rest_then was.peers.items flushed.peers.items gone.peers.items c.flush.ensures.left
     c.close_gone.ensures.left)
-    c.poll_unless_held.ensures.shares begun.as_many begun.those begun.shares))
+    c.poll_unless_held.ensures.shares begun.as_many begun.those begun.shares)
 
 pub returns-clause-rests : goal.returns-clause-rests
 returns-clause-rests g c goes =

@@ -1,6 +1,7 @@
 use Rattle.std.proofs.Common.{◌≡◌, ◌∙◌, ℕ, not, List, rules, subst, sym, arith}
 use Rattle.std.specs.Prelude.{◌||◌, Bool, All}
 use Rattle.std.proofs.lemmas.List.{with_items_is}
+use Rattle.srcp_door.specs.Pacing.{is_short_pace}
 use Rattle.srcp_peers.specs.declared.peer.Peer.{Peer}
 use Rattle.srcp_peers.specs.AllPeers.{AreShared, AreThose}
 use Rattle.srcp_log.specs.Doors.{Stands}
@@ -76,12 +77,11 @@ returns-clause-visited g c =
 
 pub returns-clause-shares : goal.returns-clause-shares
 returns-clause-shares g c =
-    let anew = not (c.args.self.now.starved || c.args.self.now.turn.late) in
-    let clock = c.args.self.now.turn.clock in
-    subst (λ (ps : List Peer). AreShared anew clock c.args.self.now.peers.items ps)
+    let anew = not (is_short_pace c.args.self.now.turn.pace || c.args.self.now.turn.late) in
+    subst (λ (ps : List Peer). AreShared anew c.args.self.now.peers.items ps)
     (sym (with_items_is c.args.self.now.peers c.begin_visits.new.peers (c.begin_visits.auto.peers ∙ search rules)))
-    (subst (λ (ps : List Peer). AreShared anew clock ps c.begin_visits.new.peers) c.as_mut_slice.ensures.value
-    (subst (λ (b : Bool). AreShared b clock c.as_mut_slice.result.now c.begin_visits.new.peers) c.renews_shares-anew.ensures
+    (subst (λ (ps : List Peer). AreShared anew ps c.begin_visits.new.peers) c.as_mut_slice.ensures.value
+    (subst (λ (b : Bool). AreShared b c.as_mut_slice.result.now c.begin_visits.new.peers) c.renews_shares-anew.ensures
     c.begin_visits.ensures.shares))
 
 pub returns-clause-lines_left : goal.returns-clause-lines_left

@@ -77,7 +77,7 @@ returns-clause-trace g c = says_call c.args.self.now.system.log.steps c.answer-2
 pub returns-clause-shares : goal.returns-clause-shares
 returns-clause-shares g c = from_set KeepsShare share_stays c.args.self.now.peers.items c.in-Some.index c.index_mut.result.now
     c.linger.new.self c.in-Some.ensures.found.0 c.index_mut.ensures.value (ap (λ (p : Peer). p.number) c.linger.ensures)
-    (ap (λ (p : Peer). p.share) c.linger.ensures, ap (λ (p : Peer). p.heard) c.linger.ensures)
+    (ap (λ (p : Peer). p.share) c.linger.ensures, ap (λ (p : Peer). p.served) c.linger.ensures)
 
 pub returns-in_default-clause-shares : goal.returns-in_default-clause-shares
 returns-in_default-clause-shares g c = from_same KeepsShare share_stays c.args.self.now.peers.items

@@ -13,7 +13,7 @@ loop-init g c =
       last = refl;
       times = λ wall start. refl;
       turn = refl;
-      starved = refl;
+      services = refl;
       limit = refl;
       heard = refl;
       made = omega arith;
@@ -35,7 +35,7 @@ loop-preserved g c =
       last = now.last ∙ was.last;
       times = keeps_then first old new was.times now.times;
       turn = now.keeps.0 ∙ was.turn;
-      starved = now.keeps.1 ∙ was.starved;
+      services = now.keeps.1 ∙ was.services;
       limit = now.keeps.2 ∙ was.limit;
       heard = now.heard ∙ was.heard;
       made = (let a = now.closed in let b = was.made in omega (arith, a, b));

@@ -12,7 +12,7 @@ invariant-loop g l = record {
   last : l.self.last ≡ l.fn.self.last;
   times : KeepsTimes l.fn.self.system.log.steps l.self.system.log.steps;
   turn : l.self.turn ≡ l.fn.self.turn;
-  starved : l.self.starved ≡ l.fn.self.starved;
+  services : l.self.services ≡ l.fn.self.services;
   limit : l.self.most ≡ l.fn.self.most;
   heard : l.self.listening ≡ l.fn.self.listening;
   made : Makes is_close l.counter l.fn.self.system.log.steps l.self.system.log.steps;

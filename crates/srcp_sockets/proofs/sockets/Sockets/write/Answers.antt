@@ -121,7 +121,7 @@ returns-in_default-clause-exact g c k d lt there =
 pub returns-clause-shares : goal.returns-clause-shares
 returns-clause-shares g c = from_set KeepsShare share_stays c.args.self.now.peers.items c.in-Some.index c.index_mut.result.now
     c.write-count.new.self c.in-Some.ensures.found.0 c.index_mut.ensures.value c.write-count.ensures.number
-    (ap (λ (p : Peer). p.share) c.write-count.ensures.same, ap (λ (p : Peer). p.heard) c.write-count.ensures.same)
+    (ap (λ (p : Peer). p.share) c.write-count.ensures.same, ap (λ (p : Peer). p.served) c.write-count.ensures.same)
 
 pub returns-in_default-clause-shares : goal.returns-in_default-clause-shares
 returns-in_default-clause-shares g c = from_same KeepsShare share_stays c.args.self.now.peers.items

@@ -1,0 +1,73 @@
+"""What changes a locomotive and keeps its speed: a speed of 0 that comes just before its command stays."""
+import argparse
+import asyncio
+from collections.abc import Awaitable, Callable
+from unittest import mock
+
+from .common import WAIT, Case
+
+
+class Driving(Case):
+    program = "driving"
+
+    def after(self, act: Callable[..., Awaitable[object]], before: str = "", behind: str = "") -> list[str]:
+        """The row of locomotive 3 once that was done by a mirror. Another throttle commands something just before
+        the first SET of it is sent, and something just behind its reply."""
+        from srcp_bridges import srcp
+        self.throttle.order("INIT 1 GL 3 N 1 126 2", "SET 1 GL 3 1 60 126 0 0")
+        asks, others = srcp.Session.ask, [[before], [behind]]
+
+        async def ask(session: srcp.Session, command: str) -> object:
+            is_first = command.startswith("SET 1 GL 3 ") and bool(others)
+            for command_of_other in filter(None, others.pop(0) if is_first else []):
+                await asyncio.to_thread(self.throttle.order, command_of_other)
+            reply = await asks(session, command)
+            for command_of_other in filter(None, others.pop(0) if is_first else []):
+                await asyncio.to_thread(self.throttle.order, command_of_other)
+            return reply
+
+        async def run() -> None:
+            mirror = srcp.Mirror(argparse.Namespace(host="127.0.0.1", port=self.server.port, again=0.05))
+            runs = asyncio.create_task(mirror.run())
+            while not mirror.here or not await mirror.shows((1, "GL", 3, False)):
+                await asyncio.sleep(0.02)
+            with mock.patch.object(srcp.Session, "ask", ask):
+                await act(mirror)
+            runs.cancel()
+
+        with mock.patch.object(srcp, "say"):
+            asyncio.run(run())
+        return self.throttle.ask("GET 1 GL 3").split()[5:]
+
+    def test_a_speed_of_0_of_the_same_moment_stays(self) -> None:
+        """A function, and a direction by a phone and by a topic, leave a train at rest that another put to rest."""
+        from srcp_bridges.driving import Driver, switch
+        from srcp_bridges.orders import Orders
+
+        async def by_function(mirror):
+            await switch(mirror, lambda command, seen: mirror.ask(command), 1, 3, {1: 1})
+
+        async def by_phone(mirror):
+            await Driver(mirror, 1).drive(3, mode=0)
+
+        async def by_topic(mirror):
+            orders, is_done = Orders(mirror, lambda *told: self.fail(told)), asyncio.Event()
+            carries_out = orders.carry_out
+
+            async def carry_out(*what):
+                await carries_out(*what)
+                is_done.set()
+
+            with mock.patch.object(orders, "carry_out", carry_out):
+                running = asyncio.create_task(orders.run())
+                orders.take("1/GL/3", '{"mode": 0}')
+                async with asyncio.timeout(WAIT):
+                    await is_done.wait()
+            running.cancel()
+
+        for act, mode, functions in ((by_function, "1", ["0", "1"]), (by_phone, "0", ["0", "0"]),
+                                     (by_topic, "0", ["0", "0"])):
+            for stop in ("1 0", "2 0"):
+                self.assertEqual(self.after(act, f"SET 1 GL 3 {stop} 126"), [mode, "0", "126", *functions], act)
+            self.assertEqual(self.after(act), [mode, "60", "126", *functions], act)
+            self.assertEqual(self.after(act, "SET 1 GL 3 1 0 126", "SET 1 GL 3 1 20 126")[1], "20", act)
