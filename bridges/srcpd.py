@@ -135,8 +135,6 @@ class Client:
                 await self.carry_out_all()
         except (OSError, Full) as why:
             say(f"client {self.peer}: {why}")
-        except asyncio.CancelledError:
-            pass  # this program is ended
         finally:
             self.writer.close()
 

@@ -42,11 +42,22 @@ def add_arguments(words, option: str, default: int, whom: str):
     words.add_argument("--bind", default="127.0.0.1", metavar="ADDRESS", help="this machine's address (%(default)s)")
 
 
+async def look_after(writer: asyncio.StreamWriter) -> None:
+    """Waits until a connection has ended. Else asyncio may tell a traceback of each that broke off."""
+    with contextlib.suppress(OSError):
+        await writer.wait_closed()
+
+
 @contextlib.asynccontextmanager
 async def listen(serve: Any, bind: str, port: int, **more: Any) -> AsyncIterator[asyncio.Server]:
     """Serves connections at an address of this machine. As it ends it takes no more, and waits for none."""
+    async def served(reader: asyncio.StreamReader, writer: asyncio.StreamWriter) -> None:
+        asyncio.create_task(look_after(writer))  # ends with the connection, or with this program
+        with contextlib.suppress(asyncio.CancelledError):  # this program is ended, of which asyncio tells a traceback
+            await serve(reader, writer)
+
     try:
-        server = await asyncio.start_server(serve, bind, port, **more)
+        server = await asyncio.start_server(served, bind, port, **more)
     except socket.gaierror as fault:
         raise Wrong(f"--bind {bind}: {fault}") from None
     try:

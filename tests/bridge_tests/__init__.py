@@ -63,7 +63,7 @@ from .test_confirmed import DccExTelling, Elsewhere, OfAwaited, Z21Telling  # no
 from .test_dcc_ex import DccEx, DccExWithHands, DccExWithLosses, Simulated  # noqa: E402
 from .test_doctor import Doctor  # noqa: E402
 from .test_driving import Driving  # noqa: E402
-from .test_ends import DriverThatEnds, Ends  # noqa: E402
+from .test_ends import DriverThatEnds, Ends, ServerThatIsLeft  # noqa: E402
 from .test_entrance import Entering, WebBesideManyConnections, WebInTheNetwork, WebWithAWord, WebWithForms  # noqa: E402
 from .test_guard import Guard  # noqa: E402
 from .test_hands import HandsBeforeRows, HandsBeforeStops  # noqa: E402
@@ -104,7 +104,7 @@ BRIDGE_CASES = cases_of(Readme, Following, MqttWithAWrongBroker, Stopping, Mqtt,
                         WebBesideADriver, Simulated, SimulatedDccEx, SimulatedZ21, WhatMoves, Watching, DccEx4,
                         DccEx52, Z21WithDoubles, DccExStopAll, Z21StopAll, DccExLastWords, Z21LastWords, Speaking,
                         OfStopAll,
-                        Ends, DriverThatEnds, WebOfOtherFiles, WebThatIsUpgraded, Driving, WebWithoutAScript,
-                        WebWithForms, Z21WithShuffles, DccExTelling, Z21Telling, OfAwaited, Elsewhere,
+                        Ends, DriverThatEnds, ServerThatIsLeft, WebOfOtherFiles, WebThatIsUpgraded, Driving,
+                        WebWithoutAScript, WebWithForms, Z21WithShuffles, DccExTelling, Z21Telling, OfAwaited, Elsewhere,
                         WebWithADriverThatSleeps, DccEx5, DccExAtAMega, DccExWithLostCommands, DccExWithTurnedBits,
                         Z21Start)

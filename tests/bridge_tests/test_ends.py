@@ -3,6 +3,7 @@ import asyncio
 import os
 import signal
 import socket
+import struct
 import unittest
 from pathlib import Path
 from unittest import mock
@@ -86,6 +87,63 @@ class Ends(Case):
                 started = self.starts(name, *more)
                 until(lambda: "joined" in started.told(), f"{name} has joined")
                 self.ends(name, number)
+
+
+class ServerThatIsLeft(unittest.IsolatedAsyncioTestCase):
+    """What a program serves is told of by no traceback, however it ends."""
+    program = "server"
+
+    async def asyncSetUp(self):
+        self.told: list[str] = []
+        self.ends: asyncio.Queue = asyncio.Queue()
+        loop = asyncio.get_running_loop()
+        loop.set_debug(False)
+        loop.set_exception_handler(lambda _, context: self.told.append(context["message"]))
+
+    async def serves(self, serve):
+        """Serves one connection; returns this end of it, and that of the server."""
+        from srcp_bridges.places import listen
+
+        async def noted(reader, writer):
+            self.ends.put_nowait(writer)
+            await serve(writer)
+
+        server = await self.enterAsyncContext(listen(noted, "127.0.0.1", 0))
+        client = socket.create_connection(server.sockets[0].getsockname(), WAIT)
+        self.addCleanup(client.close)
+        return client, await self.ends.get()
+
+    async def passes(self, is_true):
+        async with asyncio.timeout(WAIT):
+            while not is_true():
+                await asyncio.sleep(0.01)
+
+    async def test_a_connection_that_breaks_off_is_told_of_in_no_traceback(self):
+        """Though what asyncio keeps of its end is collected before the connection."""
+        async def write(writer):
+            await self.passes(lambda: writer.write(b"row\n") or writer.is_closing())
+
+        client, writer = await self.serves(write)
+        protocol = writer.transport.get_protocol()
+        client.setsockopt(socket.SOL_SOCKET, socket.SO_LINGER, struct.pack("ii", 1, 0))  # so it is reset
+        client.close()
+        await self.passes(lambda: protocol._closed.done())
+        await asyncio.sleep(0.01)
+        del protocol._closed
+        self.assertEqual(self.told, [])
+
+    async def test_a_client_that_is_served_at_the_end_is_told_of_in_no_traceback(self):
+        async def wait(_):
+            serving.append(asyncio.current_task())
+            await asyncio.sleep(WAIT)
+
+        serving: list[asyncio.Task] = []
+        await self.serves(wait)
+        await self.passes(lambda: serving)
+        serving[0].cancel()
+        await self.passes(lambda: serving[0].done())
+        await asyncio.sleep(0.01)
+        self.assertEqual(self.told, [])
 
 
 class BrokenLine:
