@@ -1,7 +1,7 @@
 #!/usr/bin/env python3
 """run_cases.py PROGRAM [NAME ..]: runs the built program over every case of cases/, over the failures of its streams,
 over tables of inputs, over inputs that are cut or large, serving, and over the commands of the pages; or over the cases
-that are named. Cases of bridges/ run beside each other.
+that are named. Cases of bridges/ run beside each other. With SRCP_TIMES=yes it prints how long each took as it ends.
 
 A case is a folder: `args` (one word a line), `stdin`, or in `stdin.from` the path of a file to read in its place,
 `config.toml` or `plan.toml` where it needs one, `status`, and what is expected: `stdout` and `stderr` to the byte, or
@@ -17,6 +17,7 @@ import signal
 import subprocess
 import sys
 import tempfile
+import threading
 import time
 import traceback
 from concurrent.futures import ThreadPoolExecutor
@@ -62,6 +63,8 @@ CASES = TESTS / "cases"
 INPUT_LIMIT = 16_777_216
 CONFIG_LIMIT = 1_048_576
 SECONDS = 300
+LIMIT = 900  # seconds after which a case hangs
+LIMITS = {"bridges-by-the-python-of-debian-13": 3600}
 
 
 def parse_record(out):
@@ -308,12 +311,36 @@ def full_bus_that_stalls_nobody(program):
     return None if seconds < 15 else f"it took {seconds:.1f} s"
 
 
+CASES_THAT_HANG = """import run_cases, sys, time
+run_cases.LIMIT = 5
+run_cases.cases_by_name = lambda: {name: case for name, case in (
+    ("hangs", lambda _: time.sleep(600)), ("bridge-hangs", lambda _: time.sleep(600)), ("passes", lambda _: None))}
+sys.exit(run_cases.main())
+"""
+
+
+def case_that_hangs(program):
+    """It fails, the others run, and the run ends. Each is told as it ends, if that is asked for."""
+    told = []
+    for asked in ({}, {"SRCP_TIMES": "yes"}):
+        variables = {name: value for name, value in os.environ.items() if name != "SRCP_TIMES"} | asked
+        done = subprocess.run([sys.executable, "-c", CASES_THAT_HANG, program], cwd=TESTS, capture_output=True,
+                              text=True, timeout=SECONDS, env=variables)
+        told.append([re.sub(r"[\d.]+ s\b.*", "", line) for line in done.stdout.splitlines()])
+        if done.returncode != 1:
+            return f"status {done.returncode}: {done.stderr[-300:]}"
+    fails = ["FAIL hangs: it has not ended after ", "FAIL bridge-hangs: it has not ended after ",
+             "cases: 1 passed, 2 failed, 0 skipped"]
+    times = [f"{name} took " for name in ("hangs", "passes", "bridge-hangs")]
+    return None if told == [fails, times + fails] else f"told {told}"
+
+
 STREAM_CASES = (input_past_its_limit, input_at_its_limit, input_that_cannot_be_read, output_that_cannot_be_written,
                 words_that_are_unknown, check_of_no_file_or_of_two, word_that_is_no_text, configuration_at_its_limit,
                 configuration_past_its_limit, routes_past_the_limit_of_an_input, routes_whose_input_cannot_be_read,
                 routes_whose_orders_cannot_be_written, script_past_its_limit, script_at_its_limit,
                 script_that_cannot_be_read, run_that_cannot_be_written, run_in_little_memory,
-                full_bus_that_stalls_nobody)
+                full_bus_that_stalls_nobody, case_that_hangs)
 ALL_CASES = (STREAM_CASES + TABLE_CASES + INPUT_CASES + SERVING_CASES + DOOR_CASES + FAULT_CASES + CLIENT_CASES
              + FRONT_PAGE_CASES + PAGE_CASES + NAME_CASES + RUN_SCRIPT_CASES + SAFETY_CASES + LOOKING_CASES
              + DOCTOR_CASES + HOUSE_CASES + PACKAGE_CASES + INSTALLED_CASES + RELEASE_CASES + ARM64_CASES
@@ -336,19 +363,42 @@ def fault_of(case, program):
     except TriedNothing as missing:
         return missing
     except Exception as stop:
-        stood = [frame for frame in traceback.extract_tb(stop.__traceback__) if frame.filename.startswith(str(TESTS))]
-        lines = " > ".join(f"{Path(frame.filename).name}:{frame.lineno}" for frame in stood[1:])
         notes = "".join(f"; {note}" for note in getattr(stop, "__notes__", []))
-        return f"{stop!r:.600} at {lines}: {stood[-1].line}{notes}"
+        return f"{stop!r:.600} at {lines_of(traceback.extract_tb(stop.__traceback__)[1:])}{notes}"
+
+
+def lines_of(frames):
+    """The lines of tests/ at which a case is, and the text of the last."""
+    stood = [frame for frame in frames if frame.filename.startswith(str(TESTS))]
+    lines = " > ".join(f"{Path(frame.filename).name}:{frame.lineno}" for frame in stood)
+    return f"{lines}: {stood[-1].line}" if stood else "no line"
+
+
+class Hangs(str):
+    """Why a case failed that has not ended: a busy machine is not the cause, so it is not run once more."""
+
+
+def tried(name, case, program):
+    """Returns why a case fails, or None. One that hangs fails too, and its thread is left alone."""
+    found, began, limit = [], time.monotonic(), LIMITS.get(name, LIMIT)
+    trying = threading.Thread(target=lambda: found.append(fault_of(case, program)), daemon=True)
+    trying.start()
+    trying.join(limit)
+    if not found:
+        frames = sys._current_frames().get(trying.ident)
+        found.append(Hangs(f"it has not ended after {limit} s, at {lines_of(traceback.extract_stack(frames))}"))
+    if os.environ.get("SRCP_TIMES"):
+        print(f"{name} took {time.monotonic() - began:.1f} s", flush=True)
+    return found[0]
 
 
 def with_second_tries(results, cases, program):
     """The results, if each case that failed is run once more, by itself. A case cannot tell a busy machine from a
     program that is lost. So what fails beside others and passes alone is printed, and fails nothing."""
     for name, fault in results:
-        if fault and not isinstance(fault, TriedNothing):
+        if fault and not isinstance(fault, (TriedNothing, Hangs)):
             print(f"AGAIN {name}: {fault}", flush=True)
-            fault = fault_of(cases[name], program)
+            fault = tried(name, cases[name], program)
         yield name, fault
 
 
@@ -364,9 +414,9 @@ def main():
         sys.exit(f"no such case: {' '.join(unknown)}")
     program = str(Path(program).resolve())
     beside = [name for name in names or cases if name.startswith("bridge-")]
-    results = [(name, fault_of(cases[name], program)) for name in names or cases if name not in beside]
+    results = [(name, tried(name, cases[name], program)) for name in names or cases if name not in beside]
     with ThreadPoolExecutor(BESIDE) as pool:
-        results += zip(beside, pool.map(lambda name: fault_of(cases[name], program), beside))
+        results += zip(beside, pool.map(lambda name: tried(name, cases[name], program), beside))
     results = list(with_second_tries(results, cases, program))
     skipped = [(name, fault) for name, fault in results if isinstance(fault, TriedNothing)]
     failed = [(name, fault) for name, fault in results if fault and (name, fault) not in skipped]

@@ -53,7 +53,8 @@ class Doctor(DccExCase):
         self.assertEqual(status, 0)
         self.environment |= {"XDG_RUNTIME_DIR": new_folder()}
         told, status = self.asks("doctor.py", "3")
-        self.assertRegex(told.splitlines()[-1], r"I cannot see what dcc_ex.py of \w+ does")
+        unseen = r"I cannot see what (dcc_ex|z21)\.py of \w+ does"  # cases beside this one have drivers too
+        self.assertRegex(told.splitlines()[-1], unseen)
         self.assertEqual(status, 7)
 
     def test_a_hand_at_the_station_drives(self):
