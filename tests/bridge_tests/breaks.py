@@ -19,8 +19,8 @@ from stop_breaks import STOP_BREAKS
 TOP = Path(__file__).resolve().parent.parent.parent
 BREAKS = [  # the file, whose cases, what is wrong, the text, what stands in its place
     ("srcp", "srcp", "a cut last line is taken",
-     "    def connection_lost(self, fault):\n",
-     "    def connection_lost(self, fault):\n        if self.take and self.begun:\n            "
+     "    def connection_lost(self, fault: Exception | None) -> None:\n",
+     "    def connection_lost(self, fault: Exception | None) -> None:\n        if self.take and self.begun:\n            "
      "self.take(self.begun.decode())\n"),
     ("srcp", "srcp", "after an overrun all that is not listed within a moment goes",
      "not await self.has(device) and any(", "any("),
@@ -98,7 +98,7 @@ BREAKS = [  # the file, whose cases, what is wrong, the text, what stands in its
      "    return faults(locomotives, await asyncio.gather(*stops, return_exceptions=True))\n\n\ndef faults",
      "    return faults(locomotives, [await stop for stop in stops])\n\n\ndef faults"),
     ("driving", "srcp", "a light undoes a stop that the panel has not told yet",
-     "    now = await ask(f\"GET {bus} GL {address}\", seen)\n",
+     "    now = drive_told(await ask(f\"GET {bus} GL {address}\", seen))\n",
      "    now = mirror.rows[bus, \"GL\", address, \"does\"]\n"),
     ("driving", "driving", "a speed of 0 that came meanwhile is overwritten",
      "and mirror.has_stood(bus, address, now):", "and False:"),
@@ -246,7 +246,7 @@ BREAKS = [  # the file, whose cases, what is wrong, the text, what stands in its
     ("old_words", "srcpd", "minutes are not told", "                    self.tell(clock.row(60 * minute))",
      "                    pass"),
     ("page", "web", "a page that goes leaves what it has taken driving",
-     "is_own = (await session.ask(f\"GET {bus} LOCK GL {address}\")).session == session.id", "is_own = False"),
+     "is_own = isinstance(lock, Lock) and lock.session == session.id", "is_own = False"),
     ("page", "web", "a page that goes leaves what it drives driving",
      "is_own = drive[1:4] == self.drives.get((bus, address))", "is_own = False"),
     ("page", "web", "a page that goes stops what others drive",
@@ -390,7 +390,7 @@ BREAKS = [  # the file, whose cases, what is wrong, the text, what stands in its
     ("orders", "mqtt", "a command outlives its server",
      "await order.session.ask(command)", "await self.mirror.session.ask(command)"),
     ("driving", "mqtt", "a function goes with the speed that was seen",
-     "    now = await ask(f\"GET {bus} GL {address}\", seen)\n",
+     "    now = drive_told(await ask(f\"GET {bus} GL {address}\", seen))\n",
      "    now = mirror.rows[bus, \"GL\", address, \"does\"]\n"),
     ("topics", "mqtt", "members that there are not are left out",
      "    if unknown := given.keys()", "    if None and given.keys()"),
