@@ -53,6 +53,7 @@ Sensor = Port
 Row = Peer | Power | Locomotive | Drive | Accessory | Port | Lock
 Reply = Row | str | None  # to a command: the row that GET tells, or the rest of a 200
 PowerKey = tuple[int, Literal["POWER"], int, Literal["does"]]
+LockKey = tuple[int, str, int, Literal["lock"]]
 
 
 class Change(NamedTuple):
@@ -161,7 +162,7 @@ class Rows(dict[Key, Row]):
         @overload
         def get(self, key: tuple[int, Literal["FB"], int, Literal["does"]]) -> Sensor | None: ...
         @overload
-        def get(self, key: tuple[int, str, int, Literal["lock"]]) -> Lock | None: ...
+        def get(self, key: LockKey) -> Lock | None: ...
         @overload
         def get(self, key: Key) -> Row | None: ...
         def get(self, key: Key) -> Row | None: ...

@@ -8,8 +8,8 @@ from collections.abc import Awaitable, Callable, Iterable
 from typing import overload
 
 from srcp_bridges.program import Wrong, say
-from srcp_bridges.rows import (EMERGENCY_STOP, FORWARD, NOT_SRCP, STOP_ALL, Change, Device, Drive, Key, Power, PowerKey,
-                               Refused, Reply, Row, Rows, devices, is_of_driver, keys_of, parse)
+from srcp_bridges.rows import (EMERGENCY_STOP, FORWARD, NOT_SRCP, STOP_ALL, Change, Device, Drive, Key, Lock, LockKey,
+                               Power, PowerKey, Refused, Reply, Row, Rows, devices, is_of_driver, keys_of, parse)
 from srcp_bridges.state import SELF, driven
 from srcp_bridges.stop import Stops
 
@@ -265,6 +265,8 @@ class Mirror:
 
     @overload
     async def get(self, key: PowerKey) -> Power | None: ...
+    @overload
+    async def get(self, key: LockKey) -> Lock | None: ...
     @overload
     async def get(self, key: Key) -> Row | None: ...
 

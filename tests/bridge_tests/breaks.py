@@ -20,8 +20,8 @@ TOP = Path(__file__).resolve().parent.parent.parent
 BREAKS = [  # the file, whose cases, what is wrong, the text, what stands in its place
     ("srcp", "srcp", "a cut last line is taken",
      "    def connection_lost(self, fault: Exception | None) -> None:\n",
-     "    def connection_lost(self, fault: Exception | None) -> None:\n        if self.take and self.begun:\n            "
-     "self.take(self.begun.decode())\n"),
+     "    def connection_lost(self, fault: Exception | None) -> None:\n        if self.take and self.begun:\n"
+     "            self.take(self.begun.decode())\n"),
     ("srcp", "srcp", "after an overrun all that is not listed within a moment goes",
      "not await self.has(device) and any(", "any("),
     ("srcp", "srcp", "what is listed again is told again", "if key not in self.stale or before != row:", "if True:"),
