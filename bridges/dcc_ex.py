@@ -9,11 +9,12 @@ away for PATIENCE seconds, if the station is lost or begins anew, and when this 
 power stays off until somebody switches it on, and a locomotive stands until somebody commands it anew. Decoders of the
 protocols M and S are left out. Decoders on the programming track are programmed by program.py.
 """
+import argparse
 import re
-from typing import Any
 
 from srcp_bridges.program import run, say
 from srcp_bridges.rows import FORWARD
+from srcp_bridges.stations.awaited import Part, Value
 from srcp_bridges.stations.confirmed import Confirmed
 from srcp_bridges.stations.line import Line, place
 from srcp_bridges.stations.station import words_of_driver
@@ -45,7 +46,7 @@ class DccEx(Confirmed):
     STOP_ALL = b"<!>\n"
     SENSORS = b"<Q>\n"
 
-    def __init__(self, asked):
+    def __init__(self, asked: argparse.Namespace):
         super().__init__(asked)
         self.where = place(asked.station)
         self.asked: set[int] = set()  # locomotives of which the station was asked what it kept
@@ -57,7 +58,7 @@ class DccEx(Confirmed):
     async def connect(self) -> Line:
         return await Line.open(self.where)
 
-    def greeted(self, message):
+    def greeted(self, message: str) -> None:
         """What drove before may not be in the registry: nobody could see that this stop was lost. So it is told
         twice."""
         super().greeted(message)
@@ -66,7 +67,7 @@ class DccEx(Confirmed):
         self.unsaid.clear()
         self.slotted.clear()
 
-    def look(self):
+    def look(self) -> None:
         """Tells a STOP ALL again that has not stopped what a hand drives and the registry does not have. Asks of one
         locomotive after the other what the station may have kept, or reported in vain."""
         if self.bus.stopping and any(speed > 0 for speed, *_ in self.track.others.values()):
@@ -89,13 +90,13 @@ class DccEx(Confirmed):
         if not self.ahead.fits(urgent=False):
             self.track.changed.set()  # has the station asked whether it has read that
 
-    def encode(self, part: tuple, value: Any) -> bytes:
+    def encode(self, part: Part, value: Value) -> bytes:
         """Returns the command that puts a part of the track so."""
         words = {"power": "{value}", "cab": "t {} {value[0]} {value[1]}", "function": "F {} {} {value}",
                  "turnout": "a {} {value}", "forget": "- {}"}
         return f"<{words[part[0]].format(*part[1:], value=value)}>\n".encode()
 
-    def command(self, part: tuple, value: Any) -> bytes:
+    def command(self, part: Part, value: Value) -> bytes:
         """Returns the command, and a question for what it may not report."""
         usual = (0, FORWARD) if part[0] == "cab" else 0
         is_again = part in self.awaited.since and part not in self.awaited.parts
@@ -128,7 +129,7 @@ class DccEx(Confirmed):
         elif self.ready.is_set():
             self.reported(found)
 
-    def reported(self, found):
+    def reported(self, found: re.Match[str]) -> None:
         """Takes what may be an echo of what the station was told, or not."""
         if found["power"]:
             self.take_power(int(found["power"]), found["track"])
@@ -156,7 +157,7 @@ class DccEx(Confirmed):
             self.hands.forgotten.add(address)
         self.slotted.discard(address)
 
-    def heard_locomotive(self, address, drives, functions):
+    def heard_locomotive(self, address: int, drives: tuple[int, int], functions: int) -> None:
         is_first = address in self.unsaid or address not in self.asked and drives[0] < 0  # an echo of the first stop
         if is_first and self.track.locomotive(address)[0]:
             self.take_kept(address, functions)
@@ -183,11 +184,11 @@ class DccEx(Confirmed):
             self.heard_power(on)
 
 
-async def drive(asked):
+async def drive(asked: argparse.Namespace) -> None:
     await DccEx(asked).run()
 
 
-def main():
+def main() -> None:
     words = words_of_driver(__doc__)
     words.add_argument("--station", required=True, help="a serial line (/dev/ttyACM0), or HOST:PORT in the network")
     run(drive(words.parse_args()))

@@ -4,27 +4,29 @@
 The server keeps a locomotive's speed when the session that drove it ends. If a session ends while it holds the lock of
 a locomotive, this program sets that locomotive's speed to 0. Whoever wants it to drive on gives the lock back first.
 """
+import argparse
 import asyncio
 
 from srcp_bridges.program import arguments, run, say
-from srcp_bridges.rows import Refused
+from srcp_bridges.rows import Change, Lock, Refused
 from srcp_bridges.srcp import Mirror
+from srcp_bridges.stop import Locomotive
 
 
 class Guard:
     """`freed` has, by locomotive, when it lost its lock (None: at a moment that nobody told), and whose that was."""
 
-    def __init__(self, asked):
+    def __init__(self, asked: argparse.Namespace):
         self.mirror = Mirror(asked, self.told)
-        self.freed = {}
-        self.stops = set()
+        self.freed: dict[Locomotive, tuple[float | None, int]] = {}
+        self.stops: set[asyncio.Task[None]] = set()
 
-    def told(self, change):
+    def told(self, change: Change) -> None:
         """As a session ends, its locks go at the same moment. After an overrun it is not known: in doubt it stops."""
         bus, group, address, part = change.key
         if group == "GL" and part == "lock":
             self.freed.pop((bus, address), None)
-            if not change.row:
+            if not change.row and isinstance(change.before, Lock):
                 self.freed[bus, address] = change.stamp, change.before.session
         elif group == "SESSION" and not change.row:
             for locomotive, (stamp, session) in list(self.freed.items()):
@@ -33,7 +35,7 @@ class Guard:
                     if stamp == change.stamp or None in (stamp, change.stamp):
                         self.stops.add(asyncio.create_task(self.stop(*locomotive)))
 
-    async def stop(self, bus, address):
+    async def stop(self, bus: int, address: int) -> None:
         drive = self.mirror.rows.get((bus, "GL", address, "does"))
         if drive and drive.v:
             try:
@@ -41,7 +43,8 @@ class Guard:
                 say(f"{bus} GL {address}: stopped")
             except (Refused, ConnectionError) as fault:
                 say(f"{bus} GL {address}: {fault}")
-        self.stops.discard(asyncio.current_task())
+        if task := asyncio.current_task():
+            self.stops.discard(task)
 
 
 if __name__ == "__main__":

@@ -6,35 +6,38 @@ server that has started, for each device that it does not have. From then on FIL
 back standing, with their direction and functions; accessories as they were put; power only with --power. Sensors and
 locks do not: others set them anew. What the server refuses stays in FILE~.
 """
+import argparse
 import asyncio
 import os
 import shutil
-
+from collections.abc import Callable
 from srcp_bridges.program import CannotGoOn, arguments, run, say
-from srcp_bridges.rows import EMERGENCY_STOP, FORWARD, STOP_ALL, Refused, is_of_driver, position
-from srcp_bridges.srcp import Mirror
+from srcp_bridges.rows import (EMERGENCY_STOP, FORWARD, STOP_ALL, Device, Drive, Port, Power, Refused, Rows,
+                               is_of_driver, position)
+from srcp_bridges.srcp import Mirror, Session
 
 TOGETHER = 0.002  # seconds between two ports of an accessory, so that their stamps tell which was put last
 SOON = 0.01  # seconds until it is looked again whether the panel has told what was made
 GROUPS = ["POWER", "GL", "GA"]
 
 
-def commands_of(rows, power, way=lambda bus, address: FORWARD):
+def commands_of(rows: Rows, power: bool, way: Callable[[int, int], int] = lambda bus, address: FORWARD) -> list[str]:
     """Returns the commands that make these rows again. `way` tells the direction of a locomotive that was stopped."""
     commands = []
     wanted = [key for key in rows if key[1] == "POWER" and power or key[1] in ("GL", "GA") and key[3] == "is"]
     for bus, group, address, part in sorted(wanted, key=lambda key: (key[0], GROUPS.index(key[1]), key[2])):
         row = rows[bus, group, address, part]
-        if group == "POWER":
+        if isinstance(row, Power):
             text = "" if row.text == STOP_ALL or is_of_driver(row.text) else row.text  # that was of its moment
             commands.append(f"SET {bus} POWER {'ON' if row.on else 'OFF'} {text}".rstrip(" "))
             continue
         commands.append(f"INIT {bus} {group} {address} {' '.join(map(str, row[1:]))}")
-        if drive := rows.get((bus, group, address, "does")):
+        if isinstance(drive := rows.get((bus, group, address, "does")), Drive):
             mode = way(bus, address) if drive.mode == EMERGENCY_STOP else drive.mode
             words = [mode, 0, drive.v_max, *drive.functions]
             commands.append(f"SET {bus} GL {address} {' '.join(map(str, words))}")
-        ports = [(number, port) for number in range(8) if (port := rows.get((bus, group, address, number)))]
+        told = [(number, rows.get((bus, group, address, number))) for number in range(8)]
+        ports = [(number, port) for number, port in told if isinstance(port, Port)]
         put = position(rows, bus, address)
         for number, (stamp, value) in sorted(ports, key=lambda port: (port[0] == put, port[1])):  # it comes last
             if stamp > row.stamp or value:
@@ -42,7 +45,7 @@ def commands_of(rows, power, way=lambda bus, address: FORWARD):
     return commands
 
 
-def device_of(command):
+def device_of(command: str) -> Device | None:
     """Returns the device that a command is to, or None if it names none."""
     try:
         _, bus, group, *address = command.upper().split()
@@ -51,7 +54,7 @@ def device_of(command):
         return None
 
 
-def standing(command):
+def standing(command: str) -> str:
     """Returns a command with 0 for the speed of a locomotive: a person may have written one into FILE."""
     words = command.split()
     if [word.upper() for word in words[0:3:2]] != ["SET", "GL"] or len(words) < 6:
@@ -59,31 +62,31 @@ def standing(command):
     return " ".join([*words[:5], "0", *words[6:]])
 
 
-def makes(command):
+def makes(command: str) -> bool:
     return command.upper().split()[:1] == ["INIT"]
 
 
 class Keeper:
-    def __init__(self, asked):
+    def __init__(self, asked: argparse.Namespace):
         self.path = asked.file
         self.power = asked.power
         self.rest = asked.rest
         self.changed = asyncio.Event()
-        self.session = None
-        self.written = []
+        self.session: Session | None = None
+        self.written: list[str] = []
         self.mirror = Mirror(asked, lambda change: self.changed.set(), lambda anew: self.changed.set())
 
-    async def run(self):
+    async def run(self) -> None:
         self.held()  # a FILE that cannot be read ends this program, before anything is made
         await asyncio.gather(self.mirror.run(), self.keep())
 
-    async def keep(self):
+    async def keep(self) -> None:
         while True:
             await self.changed.wait()
             self.changed.clear()
             try:
-                if self.session is not self.mirror.session:  # a server that was started anew
-                    session = self.mirror.session
+                session = self.mirror.session
+                if session and self.session is not session:  # a server that was started anew
                     await self.restore(session)
                     self.session = session
                 await self.follow()
@@ -91,16 +94,16 @@ class Keeper:
                 self.changed.set()
             await asyncio.sleep(self.rest)
 
-    async def restore(self, session):
+    async def restore(self, session: Session) -> None:
         """Has the server make what FILE holds and it does not have, and waits until the panel has told all of it."""
         self.written = self.held()
-        absent = set()
-        ordered = set()
+        absent: set[Device] = set()
+        ordered: set[Device] = set()
         for command in self.written:
             device = device_of(command)
             if device and makes(command) and not await self.mirror.has(device):
                 absent.add(device)
-            if device in absent or self.power and device and device[1] == "POWER":
+            if device and (device in absent or self.power and device[1] == "POWER"):
                 if not await self.order(session, command) and makes(command):
                     absent.discard(device)  # it is not made
                 ordered.add(device)
@@ -111,7 +114,7 @@ class Keeper:
             while not await self.mirror.shows(device):
                 await asyncio.sleep(SOON)
 
-    async def order(self, session, command):
+    async def order(self, session: Session, command: str) -> bool:
         """Returns whether the server has carried out a command."""
         try:
             await session.ask(standing(command))
@@ -121,12 +124,12 @@ class Keeper:
         await asyncio.sleep(TOGETHER if command.upper().split()[2:3] == ["GA"] else 0)
         return True
 
-    def refused(self, command, why):
+    def refused(self, command: str, why: object) -> None:
         """Says so, and keeps FILE as it is now in FILE~, since the command will not be written again."""
         say(f"{command}: {why}; {self.path}~ keeps it")
         shutil.copyfile(self.path, self.path + "~")
 
-    async def follow(self):
+    async def follow(self) -> None:
         """Writes FILE, if all that it would lose is gone from the very server that it was restored to."""
         if self.mirror.session is not self.session:
             return self.changed.set()
@@ -138,7 +141,7 @@ class Keeper:
         if commands != self.written and self.mirror.session is self.session:
             self.write(commands)
 
-    def held(self):
+    def held(self) -> list[str]:
         """Returns the commands in FILE; none if there is no such file yet."""
         try:
             with open(self.path, encoding="latin-1") as file:
@@ -146,7 +149,7 @@ class Keeper:
         except FileNotFoundError:
             return []
 
-    def write(self, commands):
+    def write(self, commands: list[str]) -> None:
         """Puts the commands in FILE: all of them, or, if the machine fails meanwhile, those that stood there."""
         try:
             with open(self.path + ".new", "w", encoding="latin-1") as file:
@@ -159,7 +162,7 @@ class Keeper:
         self.written = commands
 
 
-def main():
+def main() -> None:
     words = arguments(__doc__)
     words.add_argument("file", metavar="FILE")
     words.add_argument("--power", action="store_true", help="keep power too")

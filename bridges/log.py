@@ -48,24 +48,24 @@ class Log:
     """`since` is when the newest session began. A row that is older was listed as this program's panel began. `whose`
     names the sessions that are there."""
 
-    def __init__(self, asked):
+    def __init__(self, asked: argparse.Namespace):
         self.names = names(asked.names)
         self.since = 0.0
         self.whose: dict[int, str] = {}
         self.mirror = Mirror(asked, self.told, self.joined, self.left)
 
-    def joined(self, anew):
+    def joined(self, anew: bool) -> None:
         self.write("joined a server that was started" if anew else "joined the server again")
 
-    def left(self):
+    def left(self) -> None:
         self.since = 0.0
         self.write("the server is away")
 
-    def told(self, change):
+    def told(self, change: Change) -> None:
         """A device that is gone is told of once, by the row that says what it is."""
         bus, group, address, part = change.key
         if group == "SESSION" and change.row:
-            self.since = max(self.since, change.stamp)
+            self.since = max(self.since, change.row.stamp)
         stamp = self.since if change.stamp is None else change.stamp
         if stamp >= self.since and (change.row or part in ("is", "lock")):
             device = f"{bus} {group}" + f" {address}" * (group != "POWER")
@@ -88,7 +88,7 @@ class Log:
             self.whose[session] = name
             self.write(f"0 SESSION {session}: it is of {name}")
 
-    def write(self, text):
+    def write(self, text: str) -> None:
         moment = time.time()
         day = time.strftime("%Y-%m-%d %H:%M:%S", time.localtime(moment))
         tell(f"{day}.{int(moment * 1000) % 1000:03} {text}")
@@ -98,7 +98,7 @@ async def follow(asked: argparse.Namespace) -> None:
     await Log(asked).mirror.run()
 
 
-def main():
+def main() -> None:
     words = arguments(__doc__)
     words.add_argument("--names", metavar="FILE", help="names of devices")
     run(follow(words.parse_args()))

@@ -19,16 +19,15 @@ JSON (`functions` as a list, or as {"2": 1}), and what is left out stays; {"mode
 1/GL/3/is/set go the words of an INIT (`N 1 126 5`), and nothing for TERM. A command that came before a stop is refused
 after it. What is not carried out is told at PREFIX/error. Retained commands are not carried out.
 """
+import argparse
 import asyncio
 import json
-from typing import Any
-
 # `program` first: it says which Python it takes.
 from srcp_bridges.program import PORT, Wrong, arguments, names, run, say
 
-from srcp_bridges.broker import check, connect, matches, publish
+from srcp_bridges.broker import check, connect, matches, paho, publish
 from srcp_bridges.orders import Orders
-from srcp_bridges.rows import Refused, keys_of
+from srcp_bridges.rows import Change, Device, Refused, keys_of
 from srcp_bridges.srcp import Mirror
 from srcp_bridges.topics import announced, device_of, node, shown, stop_button
 
@@ -44,23 +43,26 @@ class Bridge:
     `late` has the topics that the broker was too slow to take: they are shown in their last state.
     """
 
-    def __init__(self, asked):
+    def __init__(self, asked: argparse.Namespace):
         self.asked = asked
         self.prefix = asked.prefix.strip("/") + "/"
-        self.wanted = {}
-        self.there = {}
+        self.wanted: dict[str, str] = {}
+        self.there: dict[str, str] = {}
         self.node = node(self.prefix)
         self.names = names(asked.names)
-        self.client: Any = None  # paho's
+        self.other: str | None = None  # the topic by which another bridge tells that it is there
+        self.client: paho.Client
         self.following = False
-        self.late = set()
+        self.late: set[str] = set()
         self.behind = asyncio.Event()
+        self.lost: asyncio.Event
+        self.marked: asyncio.Event
         self.mirror = Mirror(asked, self.told, lambda anew: self.online(), self.online)
         self.orders = Orders(self.mirror, self.refused)
         if asked.home_assistant:
             self.announce(*stop_button(self.prefix))
 
-    def told(self, change):
+    def told(self, change: Change) -> None:
         for place, payload in shown(self.mirror.rows, change.key).items():
             self.want(self.prefix + place, payload, place.endswith(("/position", "/text")))
         if self.asked.home_assistant and (found := announced(self.mirror.rows, change.key, self.prefix, self.names)):
@@ -70,15 +72,16 @@ class Bridge:
         """Has Home Assistant know an entity, or, without a payload, forget it."""
         self.want(f"{self.asked.home_assistant}/{topic}/config", payload, True)
 
-    def want(self, topic, payload, once):
+    def want(self, topic: str, payload: str | None, once: bool) -> None:
         """Has the broker show a payload; `once`: not again, if it shows that already."""
-        self.wanted[topic] = payload
-        if not payload:
-            del self.wanted[topic]
+        if payload:
+            self.wanted[topic] = payload
+        else:
+            self.wanted.pop(topic, None)
         if not once or self.there.get(topic) != self.wanted.get(topic):
             self.put(topic)
 
-    def put(self, topic):
+    def put(self, topic: str) -> None:
         """Has the broker show what is wanted at a topic; an empty message takes out what is retained."""
         payload = self.wanted.get(topic, "")
         self.late.discard(topic)
@@ -92,7 +95,7 @@ class Bridge:
         if not payload:
             del self.there[topic]
 
-    async def catch_up(self):
+    async def catch_up(self) -> None:
         while True:
             await self.behind.wait()
             self.behind.clear()
@@ -100,10 +103,10 @@ class Bridge:
             for topic in list(self.late):
                 self.put(topic)
 
-    def online(self):
+    def online(self) -> None:
         self.want(self.prefix + "online", "online" if self.mirror.here else "offline", False)
 
-    async def clear(self):
+    async def clear(self) -> None:
         """Takes out what the broker shows and the registry has not."""
         while stale := [topic for topic in self.there if topic not in self.wanted]:
             try:
@@ -113,9 +116,10 @@ class Bridge:
                 pass  # the server has gone meanwhile
             await asyncio.sleep(MOMENT)
 
-    async def look_at(self, topic):
+    async def look_at(self, topic: str) -> None:
         """Takes out what the broker shows of no row. If its device is not listed (yet), the server is asked."""
         device = device_of(self.place(topic))
+        assert device  # `found` took in no other
         if any(key in self.mirror.rows for key in keys_of(device)):
             self.put(topic)
         elif self.mirror.here and not await self.mirror.has(device):
@@ -124,7 +128,7 @@ class Bridge:
             else:
                 self.there.pop(topic, None)  # another layout shows it
 
-    async def owns(self, device):
+    async def owns(self, device: Device) -> bool:
         """Returns whether the layout has such devices on that bus: it then knows the address 1."""
         bus, group, _, is_lock = device
         words = "POWER" if group == "POWER" else f"LOCK {group} 1" if is_lock else f"{group} 1" + " 0" * (group == "GA")
@@ -133,17 +137,17 @@ class Bridge:
         except Refused as reply:
             return str(reply).startswith("416")
 
-    def place(self, topic):
+    def place(self, topic: str) -> str:
         """Returns a topic without its prefix; of an announcement, the name of its device."""
         return topic.removeprefix(self.prefix) if topic.startswith(self.prefix) else topic.split("/")[-2]
 
-    def refused(self, place, text, fault):
+    def refused(self, place: str, text: str, fault: Exception | str) -> None:
         if self.following:
             words = {"topic": f"{self.prefix}{place}", "payload": text, "reply": str(fault)}
             cut = {name: word[:LONGEST] for name, word in words.items()}
             self.client.publish(self.prefix + "error", json.dumps(cut))
 
-    def heard(self, topic, payload, retained):
+    def heard(self, topic: str, payload: bytes, retained: bool) -> None:
         if not any(matches(levels, topic) for levels, _ in self.all_topics()):
             return  # nobody asked for it
         text = payload[:LOOKED_AT].decode("utf-8", "replace").strip()
@@ -161,14 +165,14 @@ class Bridge:
             else:
                 self.orders.take(place, text)
 
-    def found(self, topic, text):
+    def found(self, topic: str, text: str) -> None:
         """Takes in what the broker has retained: what this bridge may have had it show, and another bridge's mark."""
         if topic.endswith("/online") and text in ("online", "offline"):
             self.other = topic
         elif device_of(self.place(topic)):
             self.there[topic] = text
 
-    async def follow(self):
+    async def follow(self) -> None:
         """One connection to the broker: reads what it shows, has it show what is wanted, until it is lost."""
         joined = asyncio.Event()
         self.lost = asyncio.Event()
@@ -176,7 +180,7 @@ class Bridge:
         self.there, self.other = {}, None
         words = self.node + "-bridge", self.prefix + "online", self.heard, joined, self.lost
         client = self.client = await asyncio.to_thread(connect, self.asked, *words, asyncio.get_running_loop())
-        tasks = []
+        tasks: list[asyncio.Task[None]] = []
         try:
             await self.comes(joined)
             client.subscribe(self.all_topics())
@@ -197,14 +201,14 @@ class Bridge:
             client.disconnect()
             await asyncio.to_thread(client.loop_stop)
 
-    def all_topics(self):
+    def all_topics(self) -> list[tuple[str, int]]:
         """Returns what is read as a connection begins; by QoS 0, since of 1 mosquitto sends 1,000 messages at most."""
         levels, node = self.prefix.split("/")[:-1], f"+/{self.node}/+/config"
         above = ["/".join([*levels[:count], "online"]) for count in range(1, len(levels))]
         discovery = [f"{self.asked.home_assistant}/{node}"] if self.asked.home_assistant else []
         return [(topic, 0) for topic in (self.prefix + "#", *above, *discovery)]
 
-    async def comes(self, event):
+    async def comes(self, event: asyncio.Event) -> None:
         """Waits for what has to come from the broker."""
         waits = [asyncio.create_task(each.wait()) for each in (event, self.lost)]
         await asyncio.wait(waits, timeout=READING, return_when=asyncio.FIRST_COMPLETED)
@@ -213,7 +217,7 @@ class Bridge:
         if not event.is_set():
             raise ConnectionError("closed or refused the connection, or does not answer")
 
-    def begin(self, client):
+    def begin(self, client: "paho.Client") -> None:
         """What the broker shows is known: has it show what is wanted, and takes commands from now on."""
         say(f"broker: joined; it had {len(self.there)} topics")
         client.unsubscribe([topic for topic, _ in self.all_topics()])
@@ -226,7 +230,7 @@ class Bridge:
                 self.put(topic)
         self.online()
 
-    async def keep_broker(self):
+    async def keep_broker(self) -> None:
         while True:
             try:
                 await self.follow()
@@ -234,18 +238,18 @@ class Bridge:
                 say(f"broker: {fault}")
             await asyncio.sleep(self.asked.again)
 
-    async def run(self):
+    async def run(self) -> None:
         await asyncio.gather(self.mirror.run(), self.keep_broker(), self.orders.run())
 
 
-async def bridge(asked):
+async def bridge(asked: argparse.Namespace) -> None:
     check(asked)
     if not asked.prefix.strip("/") or set("+#") & set(asked.prefix):
         raise Wrong(f"--prefix {asked.prefix}: no topic begins so")
     await Bridge(asked).run()
 
 
-def main():
+def main() -> None:
     words = arguments(__doc__)
     words.add_argument("--broker", default="127.0.0.1", metavar="HOST", help="where the broker is (%(default)s)")
     words.add_argument("--broker-port", type=PORT, default=1883, metavar="PORT", help="its port (%(default)s)")

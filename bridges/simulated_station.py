@@ -45,8 +45,8 @@ class Station(Simulated):
     `loses` and `turns` are of commands.
     """
 
-    def __init__(self, link: str, show: Callable[[str], None] = lambda text: None, version=5.0, room=0, slots=50,
-                 echoes=False, loses=0.0, turns=0.0, seed=1) -> None:
+    def __init__(self, link: str, show: Callable[[str], None] = lambda text: None, version: float = 5.0, room: int = 0,
+                 slots: int = 50, echoes: bool = False, loses: float = 0.0, turns: float = 0.0, seed: int = 1):
         super().__init__(show, Trouble(seed, loses, turns))
         self.link = link
         self.version = version
@@ -171,7 +171,7 @@ class Station(Simulated):
         self.ids[number] = on = 1 - self.ids.get(number, 0) if on is None else on
         self.say(f"<{'Q' if on else 'q'} {number}>\r\n")
 
-    def hand(self, cab: int, speed: int | None = None, way=1, **functions: int) -> None:
+    def hand(self, cab: int, speed: int | None = None, way: int = 1, **functions: int) -> None:
         """A throttle at the station drives a locomotive, or switches functions: f0=1."""
         if speed is not None:
             self.put(cab, speed, way)
@@ -184,7 +184,7 @@ class Station(Simulated):
         self.turn(main, prog)
         self.report(self.power_text())
 
-    def overload(self, says=SHORTS["overload"]) -> None:
+    def overload(self, says: str = SHORTS["overload"]) -> None:
         """It cuts its power, and tries again in a moment if nobody has told it to stay off."""
         begun = len(self.log)
         self.turn(0)

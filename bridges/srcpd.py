@@ -18,9 +18,11 @@ and after GET 0 TIME each minute of the clock. Functions that a locomotive does 
 
 With --one-port all clients throw turnouts by port 0 alone, as JMRI does: 1 is the branch, and 0 is straight.
 """
+import argparse
 import asyncio
 import re
 import time
+from collections.abc import Callable, Coroutine
 
 from srcp_bridges.old_words import FORBIDDEN, LATE, NO_DATA, NUMBER, SHORT, UNSUPPORTED, Answers, fault
 from srcp_bridges.places import Full, Places, add_arguments, listen
@@ -41,13 +43,13 @@ FOREIGN = re.compile(rb"([ \t]*INIT[ \t]+\d+[ \t]+G[LA][ \t]+\d+[ \t]+)[AFLZ](?=
 class Proxy:
     """The clients, and what they share."""
 
-    def __init__(self, asked):
+    def __init__(self, asked: argparse.Namespace):
         self.asked = asked
         self.places = Places(CLIENTS, OF_ONE)
         self.clients: set[Client] = set()
         self.answers = Answers(asked, lambda text: self.tell(text, lambda client: client.asked_time))
 
-    def tell(self, text, is_for):
+    def tell(self, text: str, is_for: Callable[["Client"], bool]) -> None:
         """Tells a line of this program's own to information sessions."""
         for client in self.clients:
             if client.is_panel and is_for(client):
@@ -65,7 +67,7 @@ class Proxy:
         self.tell(f"100 INFO 0 GM {' '.join(words)}", lambda client: to in (0, client.id))
         return "200 OK"
 
-    async def run(self):
+    async def run(self) -> None:
         async with listen(lambda *ends: Client(self, *ends).serve(), self.asked.bind, self.asked.listen):
             await asyncio.gather(self.answers.mirror.run(), self.answers.tell_minutes())
 
@@ -88,10 +90,10 @@ class Client:
         self.port = proxy.answers.mirror.server[1]
         self.service_mode = ServiceMode(self.port)
 
-    def say(self, text: str):
+    def say(self, text: str) -> None:
         self.writer.write(f"{time.time():.3f} {text}\n".encode("latin-1"))
 
-    async def read(self):
+    async def read(self) -> None:
         """Takes in the lines of the client. Of one that is too long stays what the server needs to say so."""
         begun = b""
         try:
@@ -104,7 +106,7 @@ class Client:
             pass  # it has gone
         await self.lines.put(None)
 
-    async def hear(self, upstream: asyncio.StreamReader):
+    async def hear(self, upstream: asyncio.StreamReader) -> None:
         """Passes on what the server says, and takes its replies until the lines of a panel begin."""
         try:
             while line := await upstream.readline():
@@ -129,7 +131,7 @@ class Client:
         begin, port, value = is_port.groups()
         return begin + b"0 " + port + b"\n" if value == b"1" else b""
 
-    async def serve(self):
+    async def serve(self) -> None:
         try:
             with self.proxy.places.place(self.peer):
                 await self.carry_out_all()
@@ -138,7 +140,7 @@ class Client:
         finally:
             self.writer.close()
 
-    async def carry_out_all(self):
+    async def carry_out_all(self) -> None:
         """Carries out what the client sends, until it has gone and all is answered, or the server has gone."""
         upstream, self.server = await asyncio.open_connection(*self.proxy.answers.mirror.server)
         self.hearing, self.reading = asyncio.create_task(self.hear(upstream)), asyncio.create_task(self.read())
@@ -164,7 +166,7 @@ class Client:
             return None
         return line.result()
 
-    async def carry_out(self, line: bytes):
+    async def carry_out(self, line: bytes) -> None:
         """Answers a line, or has the server answer it."""
         words = [word.decode("latin-1") for word in re.findall(rb"[^ \t]+", line.removesuffix(b"\r"))]
         keywords = [word.upper() for word in words]
@@ -185,7 +187,7 @@ class Client:
         if not self.is_panel:
             await self.replies.get()
 
-    async def drive(self, line: bytes, words: list[str]):
+    async def drive(self, line: bytes, words: list[str]) -> None:
         """Has the server carry out SET or CHECK of a locomotive. Functions that it does not have are left out: the
         server refuses also a stop that has them."""
         reply = await self.ask(line)
@@ -228,7 +230,7 @@ class Client:
             return self.proxy.message(words) if command == "SET" else UNSUPPORTED
         return await self.service_mode.answer(command, bus, words) if group == "SM" else None
 
-    async def waited(self, wait) -> str:
+    async def waited(self, wait: Coroutine[object, object, str]) -> str:
         """Returns the answer of a WAIT. It does not go on for long once the client has closed its side."""
         task = asyncio.create_task(wait)
         try:
@@ -247,7 +249,7 @@ def by_its_own_port(line: bytes, words: list[str]) -> bytes:
     return f"SET {bus} GA {place[0]} {place[2]} 1 {PULSE}".encode("latin-1")
 
 
-def main():
+def main() -> None:
     words = arguments(__doc__)
     add_arguments(words, "--listen", 4304, "clients")
     words.add_argument("--one-port", action="store_true", help="clients throw turnouts by port 0 alone")

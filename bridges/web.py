@@ -8,6 +8,7 @@ locomotives stand that it has taken, and those that drive as it told them last.
 start. It goes over the network as it is. The address is printed too, as a code for phones if python3-qrcode is
 installed, and announced if python3-zeroconf is. FILE (TOML) names devices: "1 GL 3" = "V 100".
 """
+import argparse
 import asyncio
 import html
 import json
@@ -24,8 +25,8 @@ from srcp_bridges.page_files import EVENTS, FILES, PAGE, STOPPED, WORD
 from srcp_bridges.places import Full, Places, add_arguments, listen
 from srcp_bridges.plan import read_plan
 from srcp_bridges.program import arguments, names, run, say
-from srcp_bridges.request import ARRIVE, IDLE, LONGEST_HEAD, NO_REQUEST, TEXT, answer, read_request
-from srcp_bridges.rows import ALL_STOOD, STOP_ALL
+from srcp_bridges.request import ARRIVE, IDLE, LONGEST_HEAD, NO_REQUEST, TEXT, Request, answer, read_request
+from srcp_bridges.rows import ALL_STOOD, STOP_ALL, Change, Power
 from srcp_bridges.srcp import Mirror
 from srcp_bridges.state import stations
 from srcp_bridges.stop import stop_all, unsure
@@ -38,17 +39,18 @@ KEPT_OF_ONE = 4
 LOOK = 1.0  # seconds until it is looked again at what drivers tell
 HTML = "text/html; charset=utf-8"
 JSON = "application/json"
+Answer = tuple[int, str, str]  # status, kind and body
 BEGUN = "HTTP/1.1 200 OK\r\nContent-Type: text/event-stream\r\nCache-Control: no-store\r\nConnection: close\r\n\r\n"
 
 
-def is_ours(asked):
+def is_ours(asked: Request) -> bool:
     """Returns whether a page of ours asks: no other site's page, and no other site's name that leads here."""
     host, site = asked.headers.get("host", ""), asked.headers.get("sec-fetch-site", "none")
     is_elsewhere = asked.path != "/" and site not in ("none", "same-origin")  # a link may lead to the page, and no more
     return is_own(host) and asked.headers.get("origin", f"http://{host}") == f"http://{host}" and not is_elsewhere
 
 
-def enter(entrance, writer, asked, guest):
+def enter(entrance: Entrance, writer: asyncio.StreamWriter, asked: Request, guest: str) -> bool:
     """Asks for the word. Who was wrong too often has to wait; nobody else has."""
     page = WORD
     if wait := entrance.wait(guest):
@@ -67,10 +69,10 @@ def enter(entrance, writer, asked, guest):
 
 
 class Web:
-    def __init__(self, asked):
+    def __init__(self, asked: argparse.Namespace):
         self.asked = asked
         self.plan = read_plan(asked.plan)
-        self.pages = {}
+        self.pages: dict[str, Page] = {}
         self.names = self.plan.names | names(asked.names)
         self.mirror = Mirror(asked, self.told, lambda anew: self.tell(event("here", True)),
                              lambda: self.tell(event("here", False)))
@@ -80,12 +82,12 @@ class Web:
         self.entrance = Entrance(self.word, asked.web) if self.word else None
         self.places = Places(MOST, MOST_OF_ONE)
         self.kept = Places(KEPT, KEPT_OF_ONE)
-        self.turned_away = None
+        self.turned_away: str | None = None
         self.left_out: dict[str, str] = {}
         self.stops_told = 0  # the STOP ALLs that pages were told of
-        self.asking: asyncio.Task | None = None  # whether the drivers confirm the last one
+        self.asking: asyncio.Task[None] | None = None  # whether the drivers confirm the last one
 
-    async def look_at_drivers(self):
+    async def look_at_drivers(self) -> None:
         """Tells pages what the drivers of this machine cannot drive, and why; of each bus its own driver counts."""
         while True:
             told = [(name, why) for station in stations(self.asked.port) for name, why in station["left_out"].items()
@@ -95,16 +97,16 @@ class Web:
                 self.tell(event("leftOut", found))
             await asyncio.sleep(LOOK)
 
-    def told(self, change):
+    def told(self, change: Change) -> None:
         self.tell(row_event(self.mirror, change.key, change.row))
-        if change.key[1] == "POWER" and change.row and change.row.text.startswith((STOP_ALL, ALL_STOOD)):
+        if isinstance(change.row, Power) and change.row.text.startswith((STOP_ALL, ALL_STOOD)):
             self.tell_stop()
 
-    def tell(self, text):
+    def tell(self, text: str) -> None:
         for page in self.pages.values():
             page.tell(text)
 
-    async def serve(self, reader, writer):
+    async def serve(self, reader: asyncio.StreamReader, writer: asyncio.StreamWriter) -> None:
         """Serves a connection, if there is a place for it; one for which there is not, a stop."""
         if not (peer := writer.get_extra_info("peername")):
             return writer.close()  # it is closed already
@@ -120,7 +122,8 @@ class Web:
         finally:
             writer.close()
 
-    async def serve_stop(self, reader, writer, guest, fault):
+    async def serve_stop(self, reader: asyncio.StreamReader, writer: asyncio.StreamWriter, guest: str,
+                         fault: Full) -> None:
         """Serves a connection for which only the places are left that are kept for stops."""
         if self.turned_away != guest:
             say(f"page {guest}: turned away but for stops, {fault}")
@@ -131,7 +134,8 @@ class Web:
         except (Full, *NO_REQUEST):
             pass
 
-    async def request(self, reader, writer, guest, only=None):
+    async def request(self, reader: asyncio.StreamReader, writer: asyncio.StreamWriter, guest: str,
+                      only: str | None = None) -> bool:
         """Answers a request; returns whether the connection goes on. `only`: the path that is not turned away."""
         asked = await read_request(reader, ARRIVE if only else IDLE)
         if not is_ours(asked):
@@ -156,7 +160,7 @@ class Web:
             return answer(writer, *await self.obey(asked.path, asked.headers["x-page"], asked.body, int(seen)))
         return answer(writer, 404, TEXT, "no such page\n")
 
-    async def stop_by_form(self, cookies: dict[str, str]) -> tuple[int, str, str]:
+    async def stop_by_form(self, cookies: dict[str, str]) -> Answer:
         """Carries out a STOP ALL of a page whose script does not run; returns status, kind and body of the answer. The
         cookie is of that page: a browser sends it with no form of another site."""
         if "srcp_browser" not in cookies:
@@ -165,7 +169,7 @@ class Web:
         said = f"STOP ALL FAILED. {'; '.join(faults)}" if faults else "All locomotives stand."
         return 200, HTML, STOPPED.replace("{class}", "failed" * bool(faults)).replace("{said}", html.escape(said))
 
-    async def obey(self, path, key, body, seen=0):
+    async def obey(self, path: str, key: str, body: str, seen: int = 0) -> Answer:
         """Does what a page asks for; returns status, kind and body of the answer."""
         page, numbers = self.pages.get(key), [int(word) for word in body.split() if word.isdecimal()]
         caller = page or Page(self.mirror, None)  # also one that is gone: a stop is wanted nonetheless
@@ -192,9 +196,9 @@ class Web:
             return 404, TEXT, "no such page\n"
         return 200, JSON, json.dumps({"reply": reply, "session": caller.session and caller.session.id})
 
-    async def stop_all(self):
+    async def stop_all(self) -> list[str]:
         """Stops all locomotives; returns what could not be stopped. Pages are told as soon as the stop is counted."""
-        holders = {page.session.id: page.session for page in self.pages.values() if page.session}
+        holders = {page.session.id: page.session for page in self.pages.values() if page.session and page.session.id}
         stopping = asyncio.create_task(stop_all(self.mirror, holders))
         await asyncio.sleep(0)
         self.tell_stop()
@@ -215,7 +219,7 @@ class Web:
         """Tells pages the buses whose drivers do not confirm in time that all stand."""
         self.tell(event("stood", await unsure(self.mirror)))
 
-    async def events(self, reader, writer, browser):
+    async def events(self, reader: asyncio.StreamReader, writer: asyncio.StreamWriter, browser: str | None) -> bool:
         """Sends a page all rows and each change, until it is gone, silent, or too far behind."""
         page, key = Page(self.mirror, browser), secrets.token_hex(16)
         first = event("page", {"key": key, "names": self.names, "functions": self.plan.functions,
@@ -238,7 +242,7 @@ class Web:
             await page.close()
         return False
 
-    async def follow(self, page, reader, writer):
+    async def follow(self, page: Page, reader: asyncio.StreamReader, writer: asyncio.StreamWriter) -> str:
         """Sends a page each change until it goes; returns why it went."""
         loop = asyncio.get_running_loop()
         gone, beat = asyncio.create_task(reader.read(1)), loop.time()
@@ -261,7 +265,7 @@ class Web:
         finally:
             gone.cancel()
 
-    async def run(self):
+    async def run(self) -> None:
         async with listen(self.serve, self.asked.bind, self.asked.web, limit=LONGEST_HEAD) as server:
             asks = f" and asks for the word {self.word}" if self.word and not self.asked.word else ""
             address = f"http://{to_type(self.asked.bind)}:{self.asked.web}/"
@@ -275,11 +279,11 @@ class Web:
                 task.cancel()
 
 
-async def begin(asked):
+async def begin(asked: argparse.Namespace) -> None:
     await Web(asked).run()
 
 
-def main():
+def main() -> None:
     words = arguments(__doc__)
     add_arguments(words, "--web", 8303, "browsers")
     words.add_argument("--word", help="what a page is asked for; with --bind one that stays if none is given")

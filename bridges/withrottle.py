@@ -7,6 +7,7 @@ seconds; after PATIENCE more the phone counts as gone. `--bind 0.0.0.0` serves t
 drive, since the protocol has no password. FILE (TOML) names devices: "1 GL 3" = "V 100".
 Phones find this program by themselves if python3-zeroconf is installed.
 """
+import argparse
 import asyncio
 
 from srcp_bridges.program import BUS, arguments, run
@@ -17,7 +18,7 @@ from srcp_bridges.phone_layout import Layout
 from srcp_bridges.places import add_arguments, listen
 
 
-async def serve(asked):
+async def serve(asked: argparse.Namespace) -> None:
     """Serves phones for ever."""
     layout = Layout(asked)
     async with listen(lambda *ends: Phone(layout, *ends).serve(), asked.bind, asked.listen, limit=4096) as server:
@@ -26,7 +27,7 @@ async def serve(asked):
         announcing.cancel()
 
 
-def main():
+def main() -> None:
     words = arguments(__doc__)
     add_arguments(words, "--listen", 12090, "phones")
     words.add_argument("--bus", type=BUS, default=1, help="the bus that they drive (%(default)s)")

@@ -9,12 +9,13 @@ steps of its decoder. Locomotives stop, and power goes off, if the server is awa
 is lost or begins anew, and when this program is ended: the registry says so, power stays off until somebody switches
 it on, and a locomotive stands until somebody commands it anew. Decoders of the protocols M and S are left out.
 """
+import argparse
 import asyncio
-from typing import Any
 
 from srcp_bridges.program import run, say
 from srcp_bridges.rows import STOP_ALL
 from srcp_bridges.stations import datasets
+from srcp_bridges.stations.awaited import Part, Value
 from srcp_bridges.stations.confirmed import Confirmed
 from srcp_bridges.stations.datagrams import Datagrams
 from srcp_bridges.stations.datasets import (ASK_STATUS, FLAGS, NOT_DRIVING, PROGRAMMING, SHORT_CIRCUIT, STOPS_ALL,
@@ -43,7 +44,7 @@ class Z21(Confirmed):
     STOP_ALL = xbus(0x80)
     PROGRAMS_BESIDE = False  # its track is off while it programs
 
-    def __init__(self, asked):
+    def __init__(self, asked: argparse.Namespace):
         super().__init__(asked)
         self.where = network_place(asked.station, "neither HOST nor HOST:PORT", PORT)
         self.track.tops = tuple(datasets.FORMATS)
@@ -59,7 +60,7 @@ class Z21(Confirmed):
 
     # ---- what it is told
 
-    def encode(self, part: tuple, value: Any) -> bytes:
+    def encode(self, part: Part, value: Value) -> bytes:
         """Returns the command that puts a part of the track so."""
         kind = part[0]
         if kind == "power":
@@ -77,19 +78,19 @@ class Z21(Confirmed):
     def encode_cv(self, cv: int, value: int | None) -> bytes:
         return datasets.read_cv(cv) if value is None else datasets.write_cv(cv, value)
 
-    def telling(self, part, value):
+    def telling(self, part: Part, value: Value) -> None:
         super().telling(part, value)
         if part[0] == "turnout":
             self.on.add(part[1])
 
-    def say_stop_all(self):
+    def say_stop_all(self) -> None:
         """The station stops all until its power is switched on, also if that is on already."""
         super().say_stop_all()
         self.telling(POWER, 0)
         self.track.tell(POWER, 0)
         self.track.mark(POWER)
 
-    def look(self):
+    def look(self) -> None:
         """Has outputs go off, and asks how one locomotive after the other drives, and one turnout after the other lies:
         a hand may have driven it, or thrown it."""
         self.thrown.look()
@@ -105,7 +106,7 @@ class Z21(Confirmed):
         if known := sorted(self.track.known):
             self.line.write(datasets.ask_locomotive(known[self.looks % len(known)]))
 
-    async def leave(self):
+    async def leave(self) -> None:
         await super().leave()
         self.line.write(dataset(datasets.LOGOFF))
 
@@ -149,21 +150,21 @@ class Z21(Confirmed):
             on = datasets.functions_of(*data[5:])
             self.locomotive((data[1] & 63) << 8 | data[2], datasets.REPORTED[data[3] & 7], data[4], on)
 
-    def take_status(self, status):
+    def take_status(self, status: int) -> None:
         self.alive()
         if status & SHORT_CIRCUIT and self.track.told.get(POWER) and not self.awaits(POWER):
             self.hands.overload()
         why = PROGRAMS if status & PROGRAMMING else STOP_ALL if status & NOT_DRIVING == STOPS_ALL else OFF
         self.heard_power(int(not status & NOT_DRIVING), why)
 
-    def locomotive(self, address, steps, code, functions):
+    def locomotive(self, address: int, steps: int, code: int, functions: int) -> None:
         self.track.steps[address] = steps
         top, speed = self.track.top_of(address), datasets.speed_of(code & 127, steps)
         if steps != top and speed > 0:  # a hand throttle drives it in other steps
             speed = -(-speed * top // steps)
         self.heard_locomotive(address, (speed, code >> 7), functions)
 
-    def turnout(self, address, port):
+    def turnout(self, address: int, port: int) -> None:
         """Its output goes off after a while. What the station says of the turnout then confirms that. What it says
         though it was told nothing is a hand's doing."""
         if self.pulses.pop(address, None) is not None:
@@ -175,11 +176,11 @@ class Z21(Confirmed):
             self.thrown.report(address, port)
 
 
-async def drive(asked):
+async def drive(asked: argparse.Namespace) -> None:
     await Z21(asked).run()
 
 
-def main():
+def main() -> None:
     words = words_of_driver(__doc__)
     words.add_argument("--station", required=True, help=f"HOST or HOST:PORT in the network (port {PORT} if not told)")
     run(drive(words.parse_args()))

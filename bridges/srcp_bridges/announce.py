@@ -3,6 +3,7 @@ import asyncio
 import contextlib
 import ipaddress
 import socket
+from collections.abc import AsyncIterator
 
 from srcp_bridges.program import say
 
@@ -25,7 +26,7 @@ def addresses(server: asyncio.Server) -> list[str]:
 
 
 @contextlib.asynccontextmanager
-async def announced(kind: str, server: asyncio.Server, where: list[str]):
+async def announced(kind: str, server: asyncio.Server, where: list[str]) -> AsyncIterator[None]:
     """Has a server be announced at these addresses as of a kind, such as `_withrottle._tcp`."""
     host, port = socket.gethostname().partition(".")[0], server.sockets[0].getsockname()[1]
     name = f"srcp on {host.encode()[:LONGEST].decode('utf-8', 'ignore')}, port {port}"
@@ -40,7 +41,7 @@ async def announced(kind: str, server: asyncio.Server, where: list[str]):
         await responder.async_close()  # tells that it has ended
 
 
-async def announce(kind: str, server: asyncio.Server):
+async def announce(kind: str, server: asyncio.Server) -> None:
     """Announces a server for as long as it runs, at the addresses that this machine has."""
     told = ""
     while zeroconf:

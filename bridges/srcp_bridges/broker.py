@@ -1,7 +1,10 @@
 """A connection to an MQTT broker by paho-mqtt. It has a thread of its own, and hands what comes to that of asyncio."""
+import argparse
+import asyncio
 import os
 import ssl
 import threading
+from collections.abc import Callable
 from typing import Any
 
 try:
@@ -12,9 +15,10 @@ except ImportError:
 from srcp_bridges.program import Wrong
 
 QUEUED = 20000  # messages that may wait for the broker; paho tells them apart by 65,535 numbers
+Heard = Callable[[str, bytes, bool], None]  # topic, payload, and whether the broker had retained it
 
 
-def check(asked):
+def check(asked: argparse.Namespace) -> None:
     """Refuses words with which no broker can be reached."""
     if not paho:
         raise Wrong("mqtt.py needs paho-mqtt: apt install python3-paho-mqtt")
@@ -24,16 +28,17 @@ def check(asked):
         raise Wrong(f"--cafile {asked.cafile}: {fault}") from None
 
 
-def trusted(asked):
+def trusted(asked: argparse.Namespace) -> ssl.SSLContext | None:
     """Returns what a broker's certificate is checked by; None if the connection is not encrypted."""
     return ssl.create_default_context(cafile=asked.cafile) if asked.tls or asked.cafile else None
 
 
-def connect(asked, name, will, heard, joined, lost, loop):
+def connect(asked: argparse.Namespace, name: str, will: str, heard: Heard, joined: asyncio.Event, lost: asyncio.Event,
+            loop: asyncio.AbstractEventLoop) -> "paho.Client":
     """Connects a client, and waits until the broker is reached. `heard` is called with each message that comes; the
     events `joined` and `lost` are set. The topic `will` becomes `offline` if the connection is lost.
     """
-    def came(client, data, message):
+    def came(client: "paho.Client", data: object, message: "paho.MQTTMessage") -> None:
         try:
             loop.call_soon_threadsafe(heard, message.topic, message.payload, message.retain)
         except UnicodeDecodeError:
@@ -57,10 +62,10 @@ def connect(asked, name, will, heard, joined, lost, loop):
     return client
 
 
-def publish(client, topic, payload):
+def publish(client: "paho.Client", topic: str, payload: str | None) -> bool:
     """Has the broker retain a payload. Returns whether the message could be queued."""
     return client.publish(topic, payload, qos=1, retain=True).rc != paho.MQTT_ERR_QUEUE_SIZE
 
 
-def matches(levels, topic):
+def matches(levels: str, topic: str) -> bool:
     return paho.topic_matches_sub(levels, topic)

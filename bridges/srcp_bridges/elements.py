@@ -1,5 +1,6 @@
 """What a plan has, as its legend says: turnouts, signals, sensors and the buttons of routes on its tracks, and what
 stands beside them."""
+from collections.abc import Callable
 from typing import Any, NamedTuple
 
 from srcp_bridges.drawing import Fault, Node, Point
@@ -37,7 +38,7 @@ class Element(NamedTuple):
     to: str | None = None
     aspects: tuple[str, ...] = ()
 
-    def told(self, tracks: list[list[Point]], ways: Ways, ends_block) -> dict[str, Any]:
+    def told(self, tracks: list[list[Point]], ways: Ways, ends_block: Callable[[Node], bool]) -> dict[str, Any]:
         """Returns what the page is told of it."""
         told = {"name": self.node.text, "kind": self.kind, "at": self.node.at()}
         if self.kind in BESIDE:

@@ -3,6 +3,7 @@ import hmac
 import ipaddress
 import secrets
 import time
+from collections.abc import Callable
 
 WRONG = 10  # words that an address may get wrong at once; then one more each
 PAUSE = 60.0  # seconds
@@ -25,7 +26,7 @@ class Entrance:
     `rested` has the moment at which a guest who was wrong has all its trials again.
     """
 
-    def __init__(self, word: str, port: int, now=time.monotonic):
+    def __init__(self, word: str, port: int, now: Callable[[], float] = time.monotonic):
         self.word = word
         self.cookie = f"srcp_word_{port}"
         self.now = now

@@ -11,7 +11,7 @@ HOMES = {"local", "home.arpa", "internal", "lan", "home", "localdomain", "fritz.
 ELSEWHERE = {socket.AF_INET: ("192.0.2.1", 9), socket.AF_INET6: ("2001:db8::1", 9)}  # of nobody; nothing is sent there
 
 
-def address_of(name):
+def address_of(name: str) -> ipaddress.IPv4Address | ipaddress.IPv6Address | None:
     """Returns the IP address that a name is, or None."""
     try:
         return ipaddress.ip_address(name)
@@ -19,7 +19,7 @@ def address_of(name):
         return None
 
 
-def suffixes(resolver=RESOLVER):
+def suffixes(resolver: pathlib.Path = RESOLVER) -> set[str]:
     """Returns the suffixes that the network has told this machine, such as fritz.box."""
     try:
         lines = [line.lower().split() for line in resolver.read_text("latin-1").splitlines()]
@@ -28,7 +28,7 @@ def suffixes(resolver=RESOLVER):
     return {suffix.strip(".") for line in lines if line[:1] in (["search"], ["domain"]) for suffix in line[1:]} - {""}
 
 
-def is_own(host, own=None, resolver=RESOLVER):
+def is_own(host: str, own: str | None = None, resolver: pathlib.Path = RESOLVER) -> bool:
     """Returns whether a request for this host means this machine: by a number, or by its name.
 
     Any site can have a name of its own lead here, also one that begins as this machine's does. So behind the machine's
@@ -45,7 +45,7 @@ def is_own(host, own=None, resolver=RESOLVER):
     return name == own and asked in {suffix, *HOMES, *suffixes(resolver)}
 
 
-def to_type(bind):
+def to_type(bind: str) -> str:
     """Returns what a browser can be told to reach what listens at an address: it cannot go to 0.0.0.0."""
     address = address_of(bind)
     if not address or not address.is_unspecified:

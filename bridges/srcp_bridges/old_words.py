@@ -1,10 +1,11 @@
 """What SRCP 0.8.4 has and the server leaves out: descriptions, waiting for a sensor, the time, messages."""
+import argparse
 import asyncio
 import re
 import time
 from collections.abc import Callable
 
-from srcp_bridges.rows import Refused, position
+from srcp_bridges.rows import Change, Key, Port, Refused, position
 from srcp_bridges.srcp import Mirror
 
 NUMBER = re.compile("[0-9]{1,9}")
@@ -38,7 +39,7 @@ def seconds(words: list[str]) -> int:
 class Clock:
     """The time of the layout, in seconds. It stands until it is told how fast it goes."""
 
-    def __init__(self):
+    def __init__(self) -> None:
         self.at = 0.0
         self.since = 0.0
         self.speed = 0.0
@@ -48,7 +49,7 @@ class Clock:
     def now(self) -> float:
         return self.at + (time.monotonic() - self.since) * self.speed
 
-    def turn(self, at: float, speed: float, is_set: bool = True):
+    def turn(self, at: float, speed: float, is_set: bool = True) -> None:
         self.at = at
         self.since = time.monotonic()
         self.speed = speed
@@ -64,13 +65,13 @@ class Answers:
     """Answers for all clients. An answer is a line without its stamp. `tell` is called with a line for the information
     sessions that asked for the time."""
 
-    def __init__(self, asked, tell: Callable[[str], None]):
+    def __init__(self, asked: argparse.Namespace, tell: Callable[[str], None]):
         self.mirror = Mirror(asked, self.told)
         self.tell = tell
         self.clock = Clock()
-        self.waits: set[asyncio.Queue] = set()  # the changes that come to each WAIT
+        self.waits: set[asyncio.Queue[Change]] = set()  # the changes that come to each WAIT
 
-    def told(self, change):
+    def told(self, change: Change) -> None:
         for changes in self.waits:
             changes.put_nowait(change)
 
@@ -124,15 +125,17 @@ class Answers:
         address, value, most = map(int, words)
         if (reply := await self.ask(f"CHECK {bus} FB {address} {value}")) != "200":
             return reply
-        key = bus, "FB", address, "does"
-        changes: asyncio.Queue = asyncio.Queue()
+        key: Key = bus, "FB", address, "does"
+        changes: asyncio.Queue[Change] = asyncio.Queue()
         self.waits.add(changes)
         try:
-            row = begun = await self.mirror.get(key)
+            begun = await self.mirror.get(key)
+            assert isinstance(begun, Port)
+            row = begun
             async with asyncio.timeout(most):
                 while row.value != value:
                     change = await changes.get()
-                    if change.key == key and change.row and change.row.stamp > begun.stamp:
+                    if change.key == key and isinstance(change.row, Port) and change.row.stamp > begun.stamp:
                         row = change.row
             return f"100 INFO {bus} FB {address} {value}"
         except TimeoutError:
@@ -174,7 +177,7 @@ class Answers:
             self.tell("102 INFO 0 TIME")
         return "200 OK"
 
-    async def tell_minutes(self):
+    async def tell_minutes(self) -> None:
         """Tells each minute of the clock as it begins."""
         clock = self.clock
         while True:

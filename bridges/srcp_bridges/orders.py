@@ -1,17 +1,30 @@
 """The commands that come to topics: in which order they are carried out, and which of them a stop refuses."""
 import asyncio
-from collections import namedtuple
+from collections.abc import Awaitable, Callable
 from functools import partial
+from typing import NamedTuple
 
 from srcp_bridges.driving import change, switch
-from srcp_bridges.rows import EMERGENCY_STOP, Refused
-from srcp_bridges.stop import send, stop_all, stop_one
-from srcp_bridges.topics import commands_for, locomotive_of, wanted_of
+from srcp_bridges.rows import EMERGENCY_STOP, Drive, Refused
+from srcp_bridges.srcp import Mirror, Session
+from srcp_bridges.stop import Locomotive, send, stop_all, stop_one
+from srcp_bridges.topics import Wanted, commands_for, locomotive_of, wanted_of
 
 WAITING = 1000  # commands that may wait, and that may be under way beside them
 
-# `locomotive`: bus and address, if it is to one; `wanted` of it; and how often it was stopped before, as `seen`.
-Order = namedtuple("Order", "place text session locomotive wanted seen")
+
+class Order(NamedTuple):
+    """`locomotive`, and what is `wanted` of it, if the command is to one; how often it was stopped before, as `seen`.
+    """
+    place: str
+    text: str
+    session: Session | None
+    locomotive: Locomotive | None
+    wanted: Wanted | None
+    seen: int
+
+
+Work = Callable[[Order], Awaitable[None]]
 
 
 class Orders:
@@ -22,14 +35,14 @@ class Orders:
     text of each command that is not carried out, and with the reason.
     """
 
-    def __init__(self, mirror, refused):
+    def __init__(self, mirror: Mirror, refused: Callable[[str, str, Exception | str], None]):
         self.mirror = mirror
         self.refused = refused
         self.waits: asyncio.Queue[Order] = asyncio.Queue(WAITING)
-        self.stops: set[asyncio.Task] = set()
-        self.beside: set[asyncio.Task] = set()
+        self.stops: set[asyncio.Task[None]] = set()
+        self.beside: set[asyncio.Task[None]] = set()
 
-    def take(self, place, text):
+    def take(self, place: str, text: str) -> None:
         """Takes in a command, in the order in which it came."""
         try:
             locomotive = locomotive_of(place)
@@ -48,21 +61,21 @@ class Orders:
         except Exception as fault:  # whatever was sent, this program goes on
             self.refused(place, text, fault)
 
-    def begin(self, tasks, work, order):
+    def begin(self, tasks: set[asyncio.Task[None]], work: Work, order: Order) -> None:
         if len(tasks) >= WAITING:
             raise Refused("too many commands wait")
         task = asyncio.create_task(self.carry_out(work, order))
         tasks.add(task)
         task.add_done_callback(tasks.discard)
 
-    def wait(self, order):
+    def wait(self, order: Order) -> None:
         if self.waits.full():
             self.refused(order.place, order.text, "too many commands wait")
         else:
             seen = self.mirror.stops.count(*order.locomotive) if order.locomotive else 0
             self.waits.put_nowait(order._replace(seen=seen))
 
-    async def run(self):
+    async def run(self) -> None:
         """Carries out what waits, one after the other."""
         while True:
             order = await self.waits.get()
@@ -70,44 +83,49 @@ class Orders:
                 await asyncio.wait(self.stops)
             await self.carry_out(self.drive if order.locomotive else self.obey, order)
 
-    async def carry_out(self, work, order):
+    async def carry_out(self, work: Work, order: Order) -> None:
         try:
             await work(order)
         except Exception as fault:
             self.refused(order.place, order.text, "the server is away" if isinstance(fault, OSError) else fault)
 
-    async def stop_all(self, _):
+    async def stop_all(self, _: Order) -> None:
         while not self.waits.empty():
             order = self.waits.get_nowait()
             self.refused(order.place, order.text, "all was stopped meanwhile")
         if faults := await stop_all(self.mirror):
             raise Refused("; ".join(faults))
 
-    async def stop_one(self, order):
+    async def stop_one(self, order: Order) -> None:
+        assert order.session and order.locomotive
         await stop_one(self.mirror, order.session.ask, *order.locomotive)
         await self.switch(order)
 
-    async def obey(self, order):
+    async def obey(self, order: Order) -> None:
+        assert order.session
         for command in commands_for(self.mirror.rows, order.place, order.text):
             await order.session.ask(command)
 
-    async def drive(self, order):
+    async def drive(self, order: Order) -> None:
         """Changes of a locomotive what is wanted, and leaves the rest as the server says that it is."""
+        assert order.session and order.locomotive and order.wanted
+        wanted = order.wanted
         await self.switch(order)
         if order.wanted[:3] == (None, None, None):
             return
         bus, address = order.locomotive
         steps = getattr(self.mirror.rows.get((bus, "GL", address, "is")), "steps", 0)
 
-        def words(way, now):
+        def words(way: int, now: Drive) -> list[int]:
             is_now = way, now.v, now.v_max or steps
-            return [old if new is None else new for new, old in zip(order.wanted, is_now)]
+            return [old if new is None else new for new, old in zip(wanted[:3], is_now)]
 
         ask = partial(send, self.mirror.stops, order.session)
         await change(self.mirror, ask, bus, address, words, order.seen, order.wanted.v is None)
 
-    async def switch(self, order):
+    async def switch(self, order: Order) -> None:
         """Switches the functions that are wanted; none, if the locomotive has not all of them."""
+        assert order.session and order.locomotive and order.wanted
         functions, (bus, address) = order.wanted.functions, order.locomotive
         made = self.mirror.rows.get((bus, "GL", address, "is"))
         if beyond := [number for number in functions if made and not 0 <= number < made.functions]:

@@ -2,30 +2,32 @@
 import asyncio
 import collections
 import json
+from collections.abc import Awaitable, Callable
 
 from srcp_bridges.driving import switch
-from srcp_bridges.rows import Refused, position
-from srcp_bridges.srcp import Session
-from srcp_bridges.stop import send, stop_one
+from srcp_bridges.rows import Key, Lock, Refused, Reply, Row, drive_told, position
+from srcp_bridges.srcp import Mirror, Session
+from srcp_bridges.stop import Locomotive, send, stop_one
 
 BEHIND = 20000  # events that may wait for a page; one that is further behind is closed, and joins again
+Told = tuple[int, int, int]  # how a locomotive is told to drive: mode, V and Vmax
 
 
-def event(name, data):
+def event(name: str, data: object) -> str:
     """Returns the text by which a page is sent an event."""
     return f"event: {name}\ndata: {json.dumps(data)}\n\n"
 
 
-def row_event(mirror, key, row):
+def row_event(mirror: Mirror, key: Key, row: Row | None) -> str:
     """Returns the event of a row, and of what the rows before it tell: a locomotive's direction and how often it was
     stopped, and how an accessory lies."""
     bus, group, address, part = key
-    beside = {}
+    told: dict[str, object] = {"key": key, "row": row and row._asdict()}
     if row and (group, part) == ("GL", "does"):
-        beside = {"way": mirror.way(bus, address), "stops": mirror.stops.count(bus, address)}
+        told |= {"way": mirror.way(bus, address), "stops": mirror.stops.count(bus, address)}
     elif row and group == "GA" and isinstance(part, int):
-        beside = {"lies": position(mirror.rows, bus, address)}
-    return event("row", {"key": key, "row": row and row._asdict(), **beside})
+        told["lies"] = position(mirror.rows, bus, address)
+    return event("row", told)
 
 
 class Page:
@@ -34,62 +36,66 @@ class Page:
     `taken` has the locomotives that it has locked. `drives` has, by locomotive, how it told it to drive.
     """
 
-    def __init__(self, mirror, browser):
+    def __init__(self, mirror: Mirror, browser: str | None):
         self.mirror = mirror
         self.browser = browser
-        self.session = None
-        self.taken = set()
-        self.drives = {}
+        self.session: Session | None = None
+        self.taken: set[Locomotive] = set()
+        self.drives: dict[Locomotive, Told | None] = {}
         self.events: collections.deque[str] = collections.deque()
         self.more = asyncio.Event()
         self.turn = asyncio.Lock()
         self.open = True
         self.heard = asyncio.get_running_loop().time()
 
-    def tell(self, text):
+    def tell(self, text: str) -> None:
         if len(self.events) <= BEHIND:
             self.events.append(text)
         self.more.set()
 
-    def commander(self):
+    def commander(self) -> Session:
         """Returns the session that commands for this page: its own, if it has one, else that of all pages."""
-        return self.session if self.session and not self.session.ended.done() else self.mirror.session
+        if self.session and not self.session.ended.done():
+            return self.session
+        if not self.mirror.session:
+            raise ConnectionError("the server is away")
+        return self.mirror.session
 
-    async def reply(self, carry_out, *words):
+    async def reply(self, carry_out: Callable[[], Awaitable[object]]) -> str:
         """Returns the reply, in words, to what a function carries out."""
         if not self.mirror.session or self.mirror.session.ended.done():
             return "the server is away"
         try:
-            await carry_out(*words)
+            await carry_out()
             return "200 OK"
         except (Refused, OSError) as fault:
             return str(fault)
 
-    async def ask(self, command, seen=0):
+    async def ask(self, command: str, seen: int = 0) -> str:
         """Carries out a command, one at a time; returns the reply. `seen`: the stops that the page had been told of."""
         words = command.upper().split()
         if words[2:3] == ["SESSION"]:
             return "415 ERROR forbidden"  # that session is the one of all pages
         if words[2:3] == ["POWER"]:  # behind nothing else
-            return await self.reply(lambda: self.mirror.session.ask(command))
-        return await self.reply(self.carry_out, command, words, seen)
+            return await self.reply(lambda: self.mirror.ask(command))
+        return await self.reply(lambda: self.carry_out(command, words, seen))
 
-    async def switch(self, bus, address, function, value):
+    async def switch(self, bus: int, address: int, function: int, value: int) -> str:
         """Changes one function of a locomotive; returns the reply."""
-        async def ask(command, seen):
+        async def ask(command: str, seen: int | None) -> Reply:
             return await send(self.mirror.stops, self.commander(), command, seen)
 
-        async def in_turn():
+        async def in_turn() -> None:
             async with self.turn:
                 await switch(self.mirror, ask, bus, address, {function: value})
 
         return await self.reply(in_turn)
 
-    async def stop(self, bus, address):
+    async def stop(self, bus: int, address: int) -> str:
         """Has a locomotive make an emergency stop, behind nothing else; returns the reply."""
         return await self.reply(lambda: stop_one(self.mirror, self.commander().ask, bus, address))
 
-    async def carry_out(self, command, words, seen):
+    async def carry_out(self, command: str, words: list[str], seen: int) -> None:
         """Notes what the page drives before the command is sent: it may be closed before the reply has come."""
         async with self.turn:
             if not self.open:
@@ -98,14 +104,15 @@ class Page:
                 self.session, self.taken = None, set()
             if not self.session and words[2:3] == ["LOCK"]:
                 self.session = await Session.begin(self.mirror.server, whose="a page")
-            drives = [int(word) if word.isdecimal() else None for word in words[1:2] + words[3:7]]
-            if words[:1] + words[2:3] == ["SET", "GL"] and len(drives) == 5 and None not in drives:
-                return await self.drive(command, tuple(drives[:2]), tuple(drives[2:]), seen)
+            drives = words[1:2] + words[3:7]
+            if words[:1] + words[2:3] == ["SET", "GL"] and len(drives) == 5 and all(map(str.isdecimal, drives)):
+                bus, address, mode, v, v_max = map(int, drives)
+                return await self.drive(command, (bus, address), (mode, v, v_max), seen)
             await self.commander().ask(command)
             if words[:1] + words[2:4] == ["SET", "LOCK", "GL"]:
-                self.taken.add(tuple(map(int, words[1:2] + words[4:5])))
+                self.taken.add((int(words[1]), int(words[4])))
 
-    async def drive(self, command, locomotive, told, seen):
+    async def drive(self, command: str, locomotive: Locomotive, told: Told, seen: int) -> None:
         """Carries out a command that has a locomotive drive as it is told: mode, V and Vmax."""
         bus, address = locomotive
         row, before = self.mirror.rows.get((bus, "GL", address, "does")), self.drives.get(locomotive)
@@ -117,7 +124,7 @@ class Page:
             self.drives[locomotive] = before
             raise
 
-    async def close(self):
+    async def close(self) -> None:
         """Has the locomotives stand that it has taken, and those that drive as it told last; ends its session."""
         async with self.turn:
             self.open = False
@@ -129,12 +136,13 @@ class Page:
         if self.session:
             self.session.transport.close()
 
-    async def leave(self, bus, address):
+    async def leave(self, bus: int, address: int) -> None:
         """The server knows best how it drives and who has it; a row of the mirror may be on its way."""
         session = self.commander()
-        drive = await session.ask(f"GET {bus} GL {address}")
+        drive = drive_told(await session.ask(f"GET {bus} GL {address}"))
         is_own = drive[1:4] == self.drives.get((bus, address))
         if not is_own and (bus, address) in self.taken:
-            is_own = (await session.ask(f"GET {bus} LOCK GL {address}")).session == session.id
+            lock = await session.ask(f"GET {bus} LOCK GL {address}")
+            is_own = isinstance(lock, Lock) and lock.session == session.id
         if is_own and drive.v:
             await session.ask(f"SET {bus} GL {address} {drive.mode} 0 {drive.v_max}")

@@ -39,13 +39,13 @@ class Phone:
         self.words = Words(layout, self.driver, self.view, self.say)
         self.waiting: asyncio.PriorityQueue[Line] = asyncio.PriorityQueue()
 
-    def say(self, text):
+    def say(self, text: str) -> None:
         if self.writer.transport.get_write_buffer_size() > UNREAD:
             self.writer.transport.abort()
         elif not self.writer.is_closing():
             self.writer.write(text.encode() + b"\r\n")
 
-    def take(self, text: str, by_phone: bool = True):
+    def take(self, text: str, by_phone: bool = True) -> None:
         """Takes in a line, of the phone or, if it is silent, of this program."""
         if text in ("*+", "*-"):
             self.watched = text == "*+"
@@ -59,7 +59,7 @@ class Phone:
             else:
                 self.say("HMtoo many lines wait")
 
-    async def look_at_the_clock(self):
+    async def look_at_the_clock(self) -> None:
         while True:
             now = asyncio.get_running_loop().time()
             if now - self.looked > STOPPED:
@@ -67,7 +67,7 @@ class Phone:
             self.looked = now
             await asyncio.sleep(LOOK)
 
-    def was_stopped(self):
+    def was_stopped(self) -> bool:
         """Returns whether this program has just gone on after a stop."""
         now = asyncio.get_running_loop().time()
         return now - self.looked > STOPPED or now - self.went_on < STOPPED
@@ -76,7 +76,7 @@ class Phone:
         """Returns whether the phone has just come back after a silence: what comes in then may be as old as that."""
         return asyncio.get_running_loop().time() - self.came_back < STOPPED
 
-    async def next_line(self):
+    async def next_line(self) -> str:
         """Returns the next line. A phone that is silent is stopped, and after a while it counts as gone."""
         if self.waiting.qsize() >= WAITING and self.words.lines % AT_ONCE == 0:
             await asyncio.sleep(0)  # other phones have their turn
@@ -93,7 +93,7 @@ class Phone:
             return line
         raise ConnectionError("silent for too long")
 
-    async def read(self):
+    async def read(self) -> str:
         """Takes in the lines of a phone until it has gone; returns why."""
         text = ""
         try:
@@ -106,7 +106,7 @@ class Phone:
             self.take(text := await self.next_line())
         return "said good-bye"
 
-    async def read_all(self):
+    async def read_all(self) -> None:
         """Takes in all lines. At the end all stands at once that the phone has taken, and then what waits is done."""
         why = "this program is ended"
         try:
@@ -120,12 +120,12 @@ class Phone:
             self.take(STAND_EVERY, by_phone=False)
             self.waiting.put_nowait(self.words.line(END))
 
-    async def carry_out(self):
+    async def carry_out(self) -> None:
         """Carries out the lines that wait, until the last."""
         while (line := await self.waiting.get()).text != END:
             await self.words.carry_out(line)
 
-    async def serve(self):
+    async def serve(self) -> None:
         self.peer = self.writer.get_extra_info("peername")[0]
         try:
             with self.layout.places.place(self.peer):
@@ -136,7 +136,7 @@ class Phone:
         finally:
             self.writer.close()
 
-    async def drive(self):
+    async def drive(self) -> None:
         """Has a phone drive until it has gone; then what it had taken stands."""
         say(f"phone {self.peer}: joined")
         connection = self.writer.get_extra_info("socket")

@@ -1,6 +1,7 @@
 """The layout as phones are told of it, in the texts of WiThrottle."""
 from __future__ import annotations
 
+import argparse
 import asyncio
 import contextlib
 import re
@@ -10,7 +11,7 @@ from srcp_bridges.phone_routes import NO_ROUTES, Routes
 from srcp_bridges.places import Places
 from srcp_bridges.plan import read_plan
 from srcp_bridges.program import names
-from srcp_bridges.rows import ALL_STOOD, CONFIRMED, THROWN as BY_HAND, UNCONFIRMED, Power, position
+from srcp_bridges.rows import ALL_STOOD, CONFIRMED, THROWN as BY_HAND, UNCONFIRMED, Change, Drive, Power, position
 from srcp_bridges.srcp import Mirror
 
 if TYPE_CHECKING:
@@ -31,7 +32,7 @@ KINDS = "PTT]\\[Turnouts}|{Turnout]\\[Closed}|{2]\\[Thrown}|{4]\\[Unknown}|{1"
 class Layout:
     """The rows of the bus, and the phones that follow them."""
 
-    def __init__(self, asked):
+    def __init__(self, asked: argparse.Namespace):
         plan = read_plan(asked.plan)
         self.asked = asked
         self.bus = asked.bus
@@ -43,7 +44,7 @@ class Layout:
         self.mirror = Mirror(asked, self.told, lambda anew: self.joined.set())
         self.routes = Routes(self.mirror, plan)
 
-    def told(self, change):
+    def told(self, change: Change) -> None:
         bus, group, address, part = change.key
         if bus == self.routes.bus and address in self.routes.names:
             self.told_of_route(group, address, part)
@@ -52,19 +53,19 @@ class Layout:
         if part == "is" and not (change.row and change.before):
             self.list_anew(group)
         elif change.row:
-            if group == "POWER":
-                self.power_changed(change.before, change.row)
+            if isinstance(change.row, Power):
+                self.power_changed(change.before if isinstance(change.before, Power) else None, change.row)
             for phone in self.phones:
                 phone.view.changed(group, address)
 
-    def told_of_route(self, group: str, number: int, part):
+    def told_of_route(self, group: str, number: int, part: str | int) -> None:
         if (group, part) == ("GA", "is"):
             self.list_anew(ROUTES)
         elif group == "FB":
             for phone in self.phones:
                 phone.view.route(number)
 
-    def power_changed(self, before: Power | None, row: Power):
+    def power_changed(self, before: Power | None, row: Power) -> None:
         """As the power goes off, refuses what phones sent before. If there is a reason, it was a loss, or a STOP ALL
         that could not stop what phones have locked: all of that is put to rest, so that nothing drives as the power
         comes back. Of a server that was started anew only that reason tells."""
@@ -76,7 +77,7 @@ class Layout:
             for phone in self.phones:
                 phone.take(STAND_EVERY, by_phone=False)
 
-    async def look_for_bus(self):
+    async def look_for_bus(self) -> None:
         """Looks at each server that is joined whether it has the bus."""
         while True:
             await self.joined.wait()
@@ -84,13 +85,13 @@ class Layout:
             with contextlib.suppress(OSError):  # it has gone again
                 await self.mirror.look_for_bus(self.bus)
 
-    def list_anew(self, group: str):
+    def list_anew(self, group: str) -> None:
         """Tells phones a list within a moment, once for all that changes until then."""
         if group not in self.due:
             self.due.add(group)
             asyncio.get_running_loop().call_later(MOMENT, self.tell_list, group)
 
-    def tell_list(self, group: str):
+    def tell_list(self, group: str) -> None:
         self.due.discard(group)
         if group == "GL":
             texts = [self.roster()]
@@ -101,8 +102,8 @@ class Layout:
             for text in texts:
                 phone.say(text)
 
-    def row(self, group, address, part):
-        return self.mirror.rows.get((self.bus, group, address, part))
+    def drive(self, address: int) -> Drive | None:
+        return self.mirror.rows.get((self.bus, "GL", address, "does"))
 
     def name(self, group: str, address: int) -> str:
         name = self.names.get(f"{self.bus} {group} {address}", str(address))
@@ -124,7 +125,7 @@ class Layout:
 
     def power(self) -> tuple[str, str]:
         """Returns what phones are told of the power, and why it is off, or what is wrong with it, if that is known."""
-        power = self.row("POWER", 0, "does")
+        power = self.mirror.rows.get((self.bus, "POWER", 0, "does"))
         if power and power.on:
             return "PPA1", power.text if power.text.startswith(UNCONFIRMED) else ""
         return "PPA0", f"power off: {power.text}" if power and power.text else ""

@@ -1,4 +1,5 @@
 """The routes of a plan, as phones are told of them in the texts of WiThrottle."""
+from srcp_bridges.phone_view import Part
 from srcp_bridges.plan import Plan
 from srcp_bridges.rows import position
 from srcp_bridges.srcp import Mirror
@@ -41,6 +42,6 @@ class Routes:
         entries = [f"{number}}}|{{{self.names[number]}}}|{{{self.state(number)}" for number in self.there()]
         return [KINDS, "]\\[".join([NO_ROUTES, *entries])] if entries else []
 
-    def shown(self) -> dict[tuple[str, int], str]:
+    def shown(self) -> dict[Part, str]:
         """Returns what the list tells of each route, in the words of a change."""
         return {("route", number): f"PRA{self.state(number)}{number}" for number in self.there()}

@@ -3,9 +3,10 @@ from __future__ import annotations
 
 import re
 from collections import Counter
-from typing import Callable, NamedTuple
+from collections.abc import Awaitable, Callable
+from typing import NamedTuple
 
-from srcp_bridges.driving import TOP, Driver
+from srcp_bridges.driving import TOP, Driver, Which
 from srcp_bridges.phone_layout import CLOSED, Layout
 from srcp_bridges.phone_view import View, speed_of
 from srcp_bridges.rows import Refused
@@ -20,8 +21,6 @@ STOPS = re.compile(r"M(.)A([^<]*)<;>(?:X|I|Q|V-[0-9]{1,5}|V0{1,5})")
 EVERY = "*"  # throttle, or key
 OLD = "not done, since this program was stopped meanwhile"
 POWER = ("", "power")
-
-Which = tuple[str, str]  # a locomotive of a phone, by its throttle and its key: ("0", "S3")
 
 
 class Line(NamedTuple):
@@ -76,12 +75,12 @@ class Words:
         """Returns whether the phone itself stopped one of these after it sent the line."""
         return any(self.stopped.get(name, 0) > line.number for name in names)
 
-    def refuse_old(self, line: Line):
+    def refuse_old(self, line: Line) -> None:
         """Refuses what may not be wanted any more. What stops is wanted."""
         if line.is_old and line.turn == USUAL:
             raise Refused(OLD)
 
-    async def carry_out(self, line: Line):
+    async def carry_out(self, line: Line) -> None:
         """Carries out a line; tells the phone what is refused."""
         try:
             if found := re.fullmatch(r"M(.)([-+AS])([^<]*)<;>(.*)", line.text):
@@ -96,7 +95,7 @@ class Words:
         except Refused as reply:
             self.say(f"HM{reply}")
 
-    async def multi(self, line: Line, throttle: str, act: str, key: str, words: str):
+    async def multi(self, line: Line, throttle: str, act: str, key: str, words: str) -> None:
         """M<throttle><act><key><;><words>: for one locomotive, or with the key * for all of the throttle."""
         if act == "+":
             await self.add((throttle, key), words, line)
@@ -106,7 +105,7 @@ class Words:
             await self.each(throttle, key, lambda which: self.give_back(which) if act == "-" else
                             self.action(which, words, line))
 
-    async def each(self, throttle: str, key: str, act):
+    async def each(self, throttle: str, key: str, act: Callable[[Which], Awaitable[None]]) -> None:
         """Does the same for each locomotive that a line names. Once each was tried, Refused has all refusals."""
         refusals = []
         for which in list(self.driver.taken):
@@ -120,7 +119,7 @@ class Words:
         if refusals:
             raise Refused("; ".join(dict.fromkeys(refusals)))
 
-    async def add(self, which: Which, words: str, line: Line):
+    async def add(self, which: Which, words: str, line: Line) -> None:
         """Takes a locomotive, by the address in its key. One that another phone has is offered instead."""
         throttle, key = which
         if not (address := self.layout.address(key, words[1:] if words[:1] == "E" else "")):
@@ -140,27 +139,27 @@ class Words:
         self.view.drive(which, drive)
         self.say(self.about(which, STEPS))
 
-    async def steal(self, which: Which, line: Line):
+    async def steal(self, which: Which, line: Line) -> None:
         """Takes a locomotive that another phone has. It drives on as it does."""
         address = self.layout.address(which[1])
         if address and (holder := self.layout.holder(address)):
             await holder.words.yield_to(self.driver, address)
         await self.add(which, which[1], line)
 
-    async def yield_to(self, other: Driver, address: int):
+    async def yield_to(self, other: Driver, address: int) -> None:
         """Lets another phone have a locomotive, and tells this one."""
         for which in [which for which, taken in self.driver.taken.items() if taken == address]:
             self.say(f"M{which[0]}-{which[1]}<;>")
         await self.driver.yield_to(other, address)
 
-    async def give_back(self, which: Which):
+    async def give_back(self, which: Which) -> None:
         await self.driver.give_back(which)
         self.say(f"M{which[0]}-{which[1]}<;>")
 
     def about(self, which: Which, words: str) -> str:
         return f"M{which[0]}A{which[1]}<;>{words}"
 
-    async def action(self, which: Which, words: str, line: Line):
+    async def action(self, which: Which, words: str, line: Line) -> None:
         """Has a locomotive do what a line says."""
         address = self.driver.taken[which]
         if line.turn == URGENT:
@@ -175,7 +174,7 @@ class Words:
         else:
             self.answer(which, address, words)
 
-    async def stop(self, address: int, line: Line, words: str):
+    async def stop(self, address: int, line: Line, words: str) -> None:
         """Has a locomotive stand (V0, I, Q), or make an emergency stop."""
         self.stopped[address] = line.number
         if line.by_phone and not line.is_held:  # or the app, as it is told of a stop: by then all has come of before
@@ -185,13 +184,13 @@ class Words:
         self.own[address] += line.by_phone
         await stop_one(self.layout.mirror, self.driver.ask, self.bus, address)
 
-    async def move(self, which: Which, line: Line, mode: int | None, v: int | None):
+    async def move(self, which: Which, line: Line, mode: int | None, v: int | None) -> None:
         """Changes speed or direction, unless the phone has stopped the locomotive since. While stops by others are
         not answered, one that drives is made slower, and no more; one that stands is turned."""
         address = self.driver.taken[which]
         if self.is_late(line, address, which, (which[0], EVERY), (EVERY, EVERY), POWER):
             return
-        now = speed_of(self.layout.row("GL", address, "does"))
+        now = speed_of(self.layout.drive(address))
         if (stopped := self.unanswered(which[0])) and (now if v is None else v > now):
             return self.refuse(which, stopped)
         await self.driver.drive(address, mode, v)
@@ -203,7 +202,7 @@ class Words:
         stops = [(address, self.others(address)) for address in together]
         return [(address, count) for address, count in stops if count > self.answered[address]]
 
-    def refuse(self, which: Which, stopped: list[tuple[int, int]]):
+    def refuse(self, which: Which, stopped: list[tuple[int, int]]) -> None:
         """Tells the phone once why its locomotive does not drive, and each time how it does."""
         if self.told.get(which) == stopped:
             return self.view.anew(which)
@@ -211,7 +210,7 @@ class Words:
         addresses = ", ".join(str(address) for address, _ in stopped)
         raise Refused(f"{addresses}: stopped by others: press stop, or go to 0, before you drive on")
 
-    async def function(self, which: Which, act: str, number: int, on: int):
+    async def function(self, which: Which, act: str, number: int, on: int) -> None:
         """F is the button of a function, pressed or let go; f sets the function; m says which buttons do not toggle."""
         momentary, address = self.momentary[which], self.driver.taken[which]
         if act == "m":
@@ -222,18 +221,18 @@ class Words:
         elif on:
             await self.driver.switch(address, {number: None})
 
-    def answer(self, which: Which, address: int, words: str):
+    def answer(self, which: Which, address: int, words: str) -> None:
         """Tells what a phone asks for. It cannot choose the steps (s): V goes to 126 for every locomotive."""
         if words in ("qV", "qR"):
             self.view.anew(which, words[1])
         elif words == "qs" or re.fullmatch("s[0-9]{1,2}", words):
             self.say(self.about(which, STEPS))
         elif words == "qm":
-            drive = self.layout.row("GL", address, "does")
+            drive = self.layout.drive(address)
             for number in range(len(drive.functions) if drive else 0):
                 self.say(self.about(which, f"m{int(number in self.momentary[which])}{number}"))
 
-    async def power(self, line: Line):
+    async def power(self, line: Line) -> None:
         """Switches the power. Off is a stop of the phone's own, which the panel tells as one by others."""
         is_on = self.layout.power()[0] == "PPA1"
         if line.text == "PPA1" and self.is_late(line, POWER):
@@ -248,7 +247,7 @@ class Words:
             await self.layout.mirror.catches_up((self.bus, "POWER", 0, False))
             self.answered |= {address: line.stops(address) + is_on for address in self.driver.taken.values()}
 
-    async def route(self, name: str):
+    async def route(self, name: str) -> None:
         """Asks for a route, or gives back one that is set or waits."""
         routes = self.layout.routes
         if not name.isdecimal() or not routes.is_there(int(name)):
@@ -257,7 +256,7 @@ class Words:
         await self.driver.ask(f"SET {routes.bus} GA {int(name)} {1 - port} 0 -1")
         await self.driver.ask(f"SET {routes.bus} GA {int(name)} {port} 1 {PULSE}")
 
-    async def turnout(self, line: Line, what: str, name: str):
+    async def turnout(self, line: Line, what: str, name: str) -> None:
         """T throws, C closes, 2 does the other. A name is a number, or one of JMRI's, as LT5."""
         if not (found := re.fullmatch("(?:[A-Z]T)?([0-9]{1,4})", name)):
             raise Refused(f"turnouts are numbers here, not {name}")
@@ -269,6 +268,6 @@ class Words:
             await self.driver.ask(f"SET {self.bus} GA {address} {1 - thrown} 0 -1")
             await self.driver.ask(f"SET {self.bus} GA {address} {thrown} 1 {PULSE}")
         except Refused:
-            if self.layout.row("GA", address, "is"):
+            if self.layout.mirror.rows.get((self.bus, "GA", address, "is")):
                 self.view.again(("GA", address), "GA", address)
             raise

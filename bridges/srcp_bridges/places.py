@@ -1,13 +1,15 @@
 """How many connections a program serves at once: of one address, so that no machine takes all places, and in all."""
+import argparse
 import asyncio
 import collections
 import contextlib
 import socket
-from collections.abc import AsyncIterator, Iterator
-from typing import Any
+from collections.abc import AsyncIterator, Awaitable, Callable, Iterator
 
 from srcp_bridges.program import PORT, Wrong
 
+Serve = Callable[[asyncio.StreamReader, asyncio.StreamWriter], Awaitable[None]]
+LIMIT = 65536  # bytes of a line, as asyncio has it
 
 class Full(Exception):
     """There is no place for one more connection."""
@@ -36,7 +38,7 @@ class Places:
             self.open += collections.Counter()  # drops the addresses that have none
 
 
-def add_arguments(words, option: str, default: int, whom: str):
+def add_arguments(words: argparse.ArgumentParser, option: str, default: int, whom: str) -> None:
     """Adds the arguments that say where a program serves others."""
     words.add_argument(option, type=PORT, default=default, metavar="PORT", help=f"where {whom} connect (%(default)s)")
     words.add_argument("--bind", default="127.0.0.1", metavar="ADDRESS", help="this machine's address (%(default)s)")
@@ -49,7 +51,7 @@ async def look_after(writer: asyncio.StreamWriter) -> None:
 
 
 @contextlib.asynccontextmanager
-async def listen(serve: Any, bind: str, port: int, **more: Any) -> AsyncIterator[asyncio.Server]:
+async def listen(serve: Serve, bind: str, port: int, limit: int = LIMIT) -> AsyncIterator[asyncio.Server]:
     """Serves connections at an address of this machine. As it ends it takes no more, and waits for none."""
     async def served(reader: asyncio.StreamReader, writer: asyncio.StreamWriter) -> None:
         asyncio.create_task(look_after(writer))  # ends with the connection, or with this program
@@ -57,7 +59,7 @@ async def listen(serve: Any, bind: str, port: int, **more: Any) -> AsyncIterator
             await serve(reader, writer)
 
     try:
-        server = await asyncio.start_server(served, bind, port, **more)
+        server = await asyncio.start_server(served, bind, port, limit=limit)
     except socket.gaierror as fault:
         raise Wrong(f"--bind {bind}: {fault}") from None
     try:

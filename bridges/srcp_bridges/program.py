@@ -6,6 +6,8 @@ import os
 import signal
 import sys
 import tomllib
+from collections.abc import Callable, Coroutine
+from typing import NoReturn, TextIO
 
 from srcp_bridges.release import release
 
@@ -20,7 +22,7 @@ class CannotGoOn(Exception):
     """What a program needs is another's: `run` tells so, and ends the program."""
 
 
-def say(text):
+def say(text: str) -> None:
     """Prints a message on standard error; what a connection that is tried again and again says, only once."""
     about = text.partition(":")[0]
     if about not in ("server", "station", "broker") or said.get(about) != text:
@@ -29,12 +31,12 @@ def say(text):
             print(f"-- {printable(text)}", file=sys.stderr, flush=True)
 
 
-def drop(stream):
+def drop(stream: TextIO) -> None:
     """Has what is not written yet go nowhere."""
     os.dup2(os.open(os.devnull, os.O_WRONLY), stream.fileno())
 
 
-def tell(text):
+def tell(text: str) -> None:
     """Prints a text on standard output. Ends the program without a word once nobody reads that, as `head` wants it."""
     try:
         print(text, flush=True)
@@ -43,7 +45,7 @@ def tell(text):
         sys.exit(128 + signal.SIGPIPE)
 
 
-def printable(text):
+def printable(text: str) -> str:
     """Returns a text without what a terminal would obey: that may come from anywhere."""
     return "".join(letter if letter.isprintable() else f"\\x{ord(letter):02x}" for letter in text)
 
@@ -56,7 +58,7 @@ def unread(path: str, fault: Exception) -> str:
     return str(fault)
 
 
-def names(path):
+def names(path: str | None) -> dict[str, str]:
     """Returns the names of devices in a file with lines such as "1 GL 3" = "V 100"."""
     if not path:
         return {}
@@ -67,9 +69,9 @@ def names(path):
         raise Wrong(f"--names {path}: {unread(path, fault)}") from None
 
 
-def number(least, most):
+def number(least: int, most: int) -> Callable[[str], int]:
     """Returns the type of an argument that is a whole number within limits."""
-    def of(text):
+    def of(text: str) -> int:
         if not (text.isdecimal() and least <= int(text) <= most):
             raise argparse.ArgumentTypeError(f"{text} is no number from {least} to {most}")
         return int(text)
@@ -81,7 +83,7 @@ BUS = number(1, 250)
 
 
 class Arguments(argparse.ArgumentParser):
-    def error(self, message):
+    def error(self, message: str) -> NoReturn:
         """Ends the program with status 2, and one line."""
         self.exit(2, f"-- {printable(message)}\n")
 
@@ -94,7 +96,7 @@ def parser(about: str | None) -> Arguments:
     return words
 
 
-def arguments(about):
+def arguments(about: str | None) -> Arguments:
     """Returns a parser of what every program of a session can be told; it adds its own."""
     words = parser(about)
     words.add_argument("--host", default="127.0.0.1", help="where the server is (%(default)s)")
@@ -104,10 +106,10 @@ def arguments(about):
     return words
 
 
-def run(program):
+def run(program: Coroutine[object, object, None]) -> None:
     """Runs a program. Exit status 0: it was ended by SIGTERM, by Ctrl-C or by the end of its terminal (SIGHUP); 1: it
     cannot go on; 2: its words are wrong. One that nohup starts ignores the end of its terminal."""
-    async def until_told():
+    async def until_told() -> None:
         task = asyncio.current_task()
         assert task
         ends = [signal.SIGTERM, signal.SIGINT]

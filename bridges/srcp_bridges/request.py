@@ -1,6 +1,7 @@
 """What a browser asks for, and what it is answered: as much of HTTP as the page takes."""
 import asyncio
-from collections import namedtuple
+from collections.abc import Iterable
+from typing import NamedTuple
 
 IDLE = 20.0  # seconds for which a connection may wait for its next request
 ARRIVE = 5.0  # seconds within which a request that has begun is here
@@ -18,10 +19,17 @@ NO_REQUEST = (OSError, EOFError,  # the connection is closed, or silent
               ValueError, asyncio.LimitOverrunError,  # it is not HTTP
               asyncio.CancelledError)  # the program ends
 
-Request = namedtuple("Request", "method path headers cookies body")  # body None: it is too long
+
+class Request(NamedTuple):
+    """`body` None: it is too long."""
+    method: str
+    path: str
+    headers: dict[str, str]
+    cookies: dict[str, str]
+    body: str | None
 
 
-async def read_request(reader, idle=IDLE):
+async def read_request(reader: asyncio.StreamReader, idle: float = IDLE) -> Request:
     """Returns the next request of a connection. If none comes that can be read, raises one of NO_REQUEST."""
     async with asyncio.timeout(idle):
         begun = await reader.readexactly(1)
@@ -38,7 +46,7 @@ async def read_request(reader, idle=IDLE):
     return Request(method, path, headers, cookies, body)
 
 
-def answer(writer, status, kind, body, cookies=()):
+def answer(writer: asyncio.StreamWriter, status: int, kind: str, body: str, cookies: Iterable[str] = ()) -> bool:
     """Sends an answer; returns whether the connection goes on."""
     head = HEAD | {"Content-Type": kind, "Content-Length": len(body.encode())}
     lines = [f"HTTP/1.1 {status} {STATUS[status]}", *(f"{name}: {value}" for name, value in head.items())]

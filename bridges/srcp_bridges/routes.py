@@ -1,7 +1,7 @@
 """The routes of a plan: each leads from a button to another, over turnouts that it wants put to a port."""
 from typing import Any
 
-from srcp_bridges.drawing import TO_THE_RIGHT, Fault
+from srcp_bridges.drawing import TO_THE_RIGHT, Fault, Node
 from srcp_bridges.elements import ACCESSORIES, BUSES, LEFT, PORTS, RIGHT, SENSORS, TURNOUT, Elements, is_within
 from srcp_bridges.lines import Lines
 from srcp_bridges.tracks import Ways, leaves, way
@@ -94,7 +94,7 @@ class Routes:
         ports = {(bus, address): port for bus, address, port in given.get("turnouts", [])}
         begin, end = (self.elements.named[given[key]].node for key in ("from", "to"))
 
-        def turn(node, side):
+        def turn(node: Node, side: int) -> list[int]:
             element = self.elements.of(node)
             port = ports.get((element.given[0], element.given[1])) if element.kind == "turnout" else None
             return element.turn(side, port)

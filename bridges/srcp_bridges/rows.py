@@ -1,8 +1,9 @@
 """The rows of a registry: how a line tells them, and how an accessory lies."""
-from collections.abc import Callable
-from typing import NamedTuple
+from collections.abc import Callable, Iterable
+from typing import TYPE_CHECKING, Literal, NamedTuple, overload
 
 Key = tuple[int, str, int, str | int]  # bus, group, address, part
+Device = tuple[int, str, int, bool]  # bus, group, address, and whether it is a lock
 
 
 class Peer(NamedTuple):
@@ -50,6 +51,9 @@ class Lock(NamedTuple):
 
 Sensor = Port
 Row = Peer | Power | Locomotive | Drive | Accessory | Port | Lock
+Reply = Row | str | None  # to a command: the row that GET tells, or the rest of a 200
+PowerKey = tuple[int, Literal["POWER"], int, Literal["does"]]
+LockKey = tuple[int, str, int, Literal["lock"]]
 
 
 class Change(NamedTuple):
@@ -101,6 +105,14 @@ class Refused(Exception):
     """The server's reply is an error, such as `414 ERROR device locked`."""
 
 
+def drive_told(reply: Reply) -> Drive:
+    """Returns how a locomotive drives, as a reply to GET tells. Raises ConnectionError if the reply tells no such row.
+    """
+    if not isinstance(reply, Drive):
+        raise ConnectionError("does not speak SRCP")
+    return reply
+
+
 def parse(line: str) -> tuple[Key, Row | None]:
     """Returns the key (bus, group, address, part) and the row of an information line; None for the row of what is gone.
 
@@ -133,31 +145,51 @@ def row_of(group: str, part: str | int, stamp: float, words: list[str]) -> Row:
     return KINDS[group, part](stamp, *(int(word) if word.isdecimal() else word for word in words))
 
 
-class Rows(dict):
+class Rows(dict[Key, Row]):
     """Rows by their keys. `put` has, by (bus, address), when a port of that accessory was last set to 1, and which."""
 
-    def __init__(self):
-        super().__init__()
-        self.put = {}
+    if TYPE_CHECKING:  # of which kind the row of a key is, as `row_of` makes it
+        @overload  # type: ignore[override]  # dict's has a default too
+        def get(self, key: PowerKey) -> Power | None: ...
+        @overload
+        def get(self, key: tuple[int, Literal["GL"], int, Literal["is"]]) -> Locomotive | None: ...
+        @overload
+        def get(self, key: tuple[int, Literal["GL"], int, Literal["does"]]) -> Drive | None: ...
+        @overload
+        def get(self, key: tuple[int, Literal["GA"], int, Literal["is"]]) -> Accessory | None: ...
+        @overload
+        def get(self, key: tuple[int, Literal["GA"], int, int]) -> Port | None: ...
+        @overload
+        def get(self, key: tuple[int, Literal["FB"], int, Literal["does"]]) -> Sensor | None: ...
+        @overload
+        def get(self, key: LockKey) -> Lock | None: ...
+        @overload
+        def get(self, key: Key) -> Row | None: ...
+        def get(self, key: Key) -> Row | None: ...
 
-    def enter(self, key, row, listed_again=False):
+    def __init__(self) -> None:
+        super().__init__()
+        self.put: dict[tuple[int, int], tuple[float, int]] = {}
+
+    def enter(self, key: Key, row: Row, listed_again: bool = False) -> Row | None:
         """Puts a row in; returns the one that was there."""
         before, self[key] = self.get(key), row
         bus, group, address, part = key
-        if group == "GA" and isinstance(part, int):
-            unseen = listed_again and before and not before.value and before.stamp < row.stamp  # on and off again
+        if group == "GA" and isinstance(part, int) and isinstance(row, Port):
+            was_off = isinstance(before, Port) and not before.value
+            unseen = listed_again and before and was_off and before.stamp < row.stamp  # on and off again
             if (row.value or unseen) and row.stamp >= self.put.get((bus, address), (0.0,))[0]:
                 self.put[bus, address] = row.stamp, part
         return before
 
-    def remove(self, key):
+    def remove(self, key: Key) -> Row | None:
         """Takes a row out; returns it."""
         if key[1::2] == ("GA", "is"):
             self.put.pop((key[0], key[2]), None)
         return self.pop(key, None)
 
 
-def position(rows, bus, address):
+def position(rows: Rows, bus: int, address: int) -> int | None:
     """Returns the port that an accessory was put to last: the one that was last set to 1.
 
     Who was not there when it was set takes the port that is 1, else the one that changed last, else None.
@@ -167,15 +199,15 @@ def position(rows, bus, address):
     made = rows.get((bus, "GA", address, "is"))
     ports = {port: row for port in range(8) if made and (row := rows.get((bus, "GA", address, port)))}
     on = [port for port in ports if ports[port].value]
-    moved = on if len(on) == 1 else [port for port in ports if ports[port].stamp > made.stamp]
-    return max(moved, key=lambda port: ports[port].stamp, default=None)
+    moved = on if len(on) == 1 else [port for port in ports if made and ports[port].stamp > made.stamp]
+    return max(moved, key=lambda port: ports[port].stamp) if moved else None
 
 
-def devices(keys):
+def devices(keys: Iterable[Key]) -> list[Device]:
     """Returns what can go as one, of these keys: (bus, group, address, whether it is a lock)."""
     return list(dict.fromkeys((*key[:3], key[3] == "lock") for key in keys))
 
 
-def keys_of(device):
+def keys_of(device: Device) -> list[Key]:
     """Returns the keys that the rows of a device can have."""
     return [(*device[:3], part) for part in (["lock"] if device[3] else ["is", "does", *range(8)])]

@@ -29,7 +29,7 @@ class Trouble:
     so behind others. `spoilt` counts what was lost or turned.
     """
 
-    def __init__(self, seed: int, loses=0.0, turns=0.0, doubles=0.0, shuffles=0.0) -> None:
+    def __init__(self, seed: int, loses: float = 0.0, turns: float = 0.0, doubles: float = 0.0, shuffles: float = 0.0):
         self.chance = random.Random(seed)
         self.loses = loses
         self.turns = turns

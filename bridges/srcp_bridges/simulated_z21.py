@@ -32,8 +32,8 @@ class Z21(Simulated):
     and `shuffles` are of datagrams, to it and from it. While it is `stalled` it hangs.
     """
 
-    def __init__(self, port: int, show: Callable[[str], None] = lambda text: None, loses=0.1, doubles=0.0, shuffles=0.0,
-                 locked=False, seed=1) -> None:
+    def __init__(self, port: int, show: Callable[[str], None] = lambda text: None, loses: float = 0.1,
+                 doubles: float = 0.0, shuffles: float = 0.0, locked: bool = False, seed: int = 1):
         super().__init__(show, Trouble(seed, loses, 0, doubles, shuffles))
         self.port = port
         self.patience = 60.0
@@ -159,7 +159,7 @@ class Z21(Simulated):
             if flags & TO_PANELS:
                 self.sense(client, (number - 1) // 80)
 
-    def hand(self, cab: int, speed: int | None = None, way=1, **functions: int) -> None:
+    def hand(self, cab: int, speed: int | None = None, way: int = 1, **functions: int) -> None:
         """A throttle at the station drives a locomotive, in the steps of its decoder, or switches functions: f0=1."""
         if speed is not None:
             count, _ = STEPS[self.steps.get(cab, 3)]

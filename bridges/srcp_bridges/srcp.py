@@ -1,12 +1,15 @@
 """Sessions at an srcp_server, and a mirror of its registry, for programs that are one thread of asyncio."""
+import argparse
 import asyncio
 import contextlib
 import socket
 from collections import defaultdict, deque
+from collections.abc import Awaitable, Callable, Iterable
+from typing import overload
 
 from srcp_bridges.program import Wrong, say
-from srcp_bridges.rows import (EMERGENCY_STOP, FORWARD, NOT_SRCP, STOP_ALL, Change, Drive, Power, Refused, Rows,
-                               devices, is_of_driver, keys_of, parse)
+from srcp_bridges.rows import (EMERGENCY_STOP, FORWARD, NOT_SRCP, STOP_ALL, Change, Device, Drive, Key, Lock, LockKey,
+                               Power, PowerKey, Refused, Reply, Row, Rows, devices, is_of_driver, keys_of, parse)
 from srcp_bridges.state import SELF, driven
 from srcp_bridges.stop import Stops
 
@@ -17,6 +20,10 @@ SOON = 0.01  # seconds until it is looked again whether the panel has told a row
 RECENT = 40  # rows of a locomotive that are looked through for one with speed 0
 LONGEST = 4096  # bytes without an end of line; the server sends 126 at most
 
+Server = tuple[str, int]  # where it is: host and port
+Take = Callable[[str], None]  # takes a line of a panel
+Ask = Callable[[str], Awaitable[Reply]]  # carries out a command
+
 
 class ServerIsFull(ConnectionError):
     """The server closed a connection before it said anything, as it does with one more than it takes."""
@@ -25,22 +32,23 @@ class ServerIsFull(ConnectionError):
 class Session(asyncio.Protocol):
     """A session at the server. `ended` is done once its connection is closed."""
 
-    def __init__(self, port):
+    def __init__(self, port: int):
         loop = asyncio.get_running_loop()
-        self.take = None
+        self.take: Take | None = None
         self.port = port
         self.begun = b""
-        self.id = None
-        self.ended = loop.create_future()
-        self.waiting = deque([loop.create_future()])  # for the welcome line
+        self.id: int | None = None
+        self.ended: asyncio.Future[str | None] = loop.create_future()
+        self.waiting: deque[asyncio.Future[str | None]] = deque([loop.create_future()])  # for the welcome line
+        self.transport: asyncio.Transport
 
     @classmethod
-    async def begin(cls, server, take=None, whose=""):
+    async def begin(cls, server: Server, take: Take | None = None, whose: str = "") -> "Session":
         """Begins a session, as `go`."""
         return await (await cls.connect(server)).go(take, whose)
 
     @classmethod
-    async def connect(cls, server):
+    async def connect(cls, server: Server) -> "Session":
         """Opens a connection, which has a place at the server, and no session until `go`."""
         async with asyncio.timeout(ANSWER):
             _, session = await asyncio.get_running_loop().create_connection(lambda: cls(server[1]), *server)
@@ -57,24 +65,25 @@ class Session(asyncio.Protocol):
         session.transport.abort()
         raise ConnectionError("does not speak SRCP")
 
-    async def go(self, take=None, whose=""):
+    async def go(self, take: Take | None = None, whose: str = "") -> "Session":
         """Begins a command session; or that of a panel, if there is a function to `take` its lines. `whose` names whom
         the session is for, if that is not this program."""
         self.take = take
         try:
             await self.ask(f"SET CONNECTIONMODE SRCP {'INFO' if take else 'COMMAND'}")
-            self.id = int((await self.ask("GO")).removeprefix("OK GO "))
+            self.id = int(str(await self.ask("GO")).removeprefix("OK GO "))
             SELF.begins(self.port, self.id, whose)
             return self
         except BaseException as fault:
             self.transport.abort()
             raise ConnectionError("does not speak SRCP") if isinstance(fault, ValueError) else fault
 
-    def connection_made(self, transport):
+    def connection_made(self, transport: asyncio.BaseTransport) -> None:
+        assert isinstance(transport, asyncio.Transport)
         self.transport = transport  # which keeps little of what was told while this program sleeps
         transport.get_extra_info("socket").setsockopt(socket.SOL_SOCKET, socket.SO_RCVBUF, 1 << 17)
 
-    def data_received(self, data):
+    def data_received(self, data: bytes) -> None:
         *lines, self.begun = (self.begun + data).split(b"\n")  # a panel's last line may be cut: it stays here
         for line in lines:
             if self.waiting:
@@ -85,13 +94,13 @@ class Session(asyncio.Protocol):
         if len(self.begun) > LONGEST:
             self.transport.abort()
 
-    def connection_lost(self, fault):
+    def connection_lost(self, fault: Exception | None) -> None:
         SELF.ends(self.port, self.id)
         for future in [self.ended, *self.waiting]:
             if not future.done():
                 future.set_result(None)
 
-    async def ask(self, command):
+    async def ask(self, command: str) -> Reply:
         """Carries out a command. Returns the row that GET tells, or the rest of a 200; Refused tells an error reply."""
         line = command.encode("latin-1", "replace")
         if b"\n" in line:
@@ -110,14 +119,14 @@ class Session(asyncio.Protocol):
             self.transport.abort()
             raise ConnectionError("does not speak SRCP") from None
 
-    async def reply(self, coming):
+    async def reply(self, coming: asyncio.Future[str | None]) -> str:
         """Returns the line that comes; if none does, the connection is closed."""
         await asyncio.wait([coming], timeout=ANSWER)  # a line that came while this program slept is not late
-        if not coming.done() or coming.result() is None:
-            why = "closed the connection" if self.ended.done() else "does not answer"
-            self.transport.abort()
-            raise ConnectionError(why)
-        return coming.result()
+        if coming.done() and (line := coming.result()) is not None:
+            return line
+        why = "closed the connection" if self.ended.done() else "does not answer"
+        self.transport.abort()
+        raise ConnectionError(why)
 
 
 class Mirror:
@@ -131,25 +140,27 @@ class Mirror:
     that is lost while the server is full.
     """
 
-    def __init__(self, asked, told=lambda change: None, joined=lambda anew: None, left=lambda: None, keeps_place=False):
+    def __init__(self, asked: argparse.Namespace, told: Callable[[Change], None] = lambda change: None,
+                 joined: Callable[[bool], None] = lambda anew: None, left: Callable[[], None] = lambda: None,
+                 keeps_place: bool = False):
         self.server = (asked.host, asked.port)
         self.again = asked.again
         self.here = False
         self.anew = True
         self.keeps_place = keeps_place
-        self.spare = None
+        self.spare: Session | None = None
         self.told = told
         self.joined = joined
         self.left = left
         self.rows = Rows()
-        self.ways = {}
+        self.ways: dict[tuple[int, int], int] = {}
         self.recent: defaultdict[tuple[int, int], deque[Drive]] = defaultdict(lambda: deque(maxlen=RECENT))
         self.stops = Stops()
         self.drivers: set[int] = set()
-        self.stale = {}
+        self.stale: dict[Key, None] = {}
         self.session: Session | None = None
 
-    async def run(self):
+    async def run(self) -> None:
         """Follows the server for ever."""
         while True:
             try:
@@ -161,7 +172,7 @@ class Mirror:
                 self.left()
             await asyncio.sleep(self.again)
 
-    async def join(self):
+    async def join(self) -> Session:
         """Returns the session at the server that is there. If it was started anew, all rows of before go."""
         try:
             if self.session and await self.session.ask(f"GET 0 SESSION {self.session.id}"):
@@ -176,7 +187,7 @@ class Mirror:
         self.session = session
         return session
 
-    async def follow(self):
+    async def follow(self) -> None:
         """Joins, and follows until the panel is closed or the server does not answer."""
         session = await self.join()
         self.stale = dict.fromkeys(self.rows)
@@ -199,7 +210,7 @@ class Mirror:
             keeping.cancel()
             panel.transport.abort()
 
-    async def begin(self, take=None):
+    async def begin(self, take: Take | None = None) -> Session:
         """Begins a session, at a full server by the connection that was kept for that."""
         try:
             return await Session.begin(self.server, take)
@@ -209,7 +220,7 @@ class Mirror:
                 raise
             return await spare.go(take)
 
-    async def keep_place(self):
+    async def keep_place(self) -> None:
         """Keeps a connection, if this mirror is to have one. If the server closes it, another is opened."""
         while self.keeps_place:
             if not self.spare or self.spare.ended.done():
@@ -217,13 +228,13 @@ class Mirror:
                     self.spare = await Session.connect(self.server)
             await asyncio.sleep(BEAT)
 
-    async def ask(self, command):
+    async def ask(self, command: str) -> Reply:
         """Carries out a command by the session beside the panel."""
         if not self.session:
             raise ConnectionError("the server is away")
         return await self.session.ask(command)
 
-    async def look_for_bus(self, number, named="--bus"):
+    async def look_for_bus(self, number: int, named: str = "--bus") -> None:
         """Raises Wrong if the server has no bus of that number. `named` says which of this program's words names it."""
         try:
             await self.ask(f"GET {number} POWER")
@@ -231,11 +242,11 @@ class Mirror:
             if str(reply).startswith("412"):
                 raise Wrong(f"{named} {number}: the server has no such bus") from None
 
-    def way(self, bus, address):
+    def way(self, bus: int, address: int) -> int:
         """Returns the direction of a locomotive: the one that its rows told last. An emergency stop tells none."""
         return self.ways.get((bus, address), FORWARD)
 
-    async def way_by(self, bus, address, row):
+    async def way_by(self, bus: int, address: int, row: Drive) -> int:
         """Returns the direction of a locomotive whose row the server has just told. After an emergency stop it is that
         of before: the panel may be late, so it is waited for until it has told that row too."""
         ends = asyncio.get_running_loop().time() + ANSWER
@@ -252,35 +263,44 @@ class Mirror:
         later = told[told.index(since) + 1:] if since in told else [row for row in told if row.stamp > since.stamp]
         return any(not row.v for row in later)
 
-    async def get(self, key):
+    @overload
+    async def get(self, key: PowerKey) -> Power | None: ...
+    @overload
+    async def get(self, key: LockKey) -> Lock | None: ...
+    @overload
+    async def get(self, key: Key) -> Row | None: ...
+
+    async def get(self, key: Key) -> Row | None:
         """Returns the row that the server has at this moment, or None. It tells no row whose part is `is`."""
         bus, group, address, part = key
         words = f"LOCK {group} {address}" if part == "lock" else "POWER" if group == "POWER" else f"{group} {address}"
         try:
-            return await self.ask(f"GET {bus} {words}" + f" {part}" * (group == "GA" and part != "lock"))
+            row = await self.ask(f"GET {bus} {words}" + f" {part}" * (group == "GA" and part != "lock"))
         except Refused:
             return None
+        return None if isinstance(row, str) else row
 
-    async def has(self, device):
+    async def has(self, device: Device) -> bool:
         """Returns whether the server has a device, or a lock, at this moment."""
         return bool(await self.get((*device[:3], "lock" if device[3] else 0)))
 
-    async def shows(self, device):
+    async def shows(self, device: Device) -> bool:
         """Returns whether the panel has told all that a device does at this moment."""
-        for part in range(8) if device[1] == "GA" else ["does"]:
+        parts: Iterable[str | int] = [*range(8)] if device[1] == "GA" else ["does"]
+        for part in parts:
             key = (*device[:3], part)
             if await self.get(key) != self.rows.get(key):
                 return False
         return True
 
-    async def catches_up(self, device):
+    async def catches_up(self, device: Device) -> None:
         """Waits until the panel has told all that a device does: it may be late."""
         ends = asyncio.get_running_loop().time() + ANSWER
         with contextlib.suppress(OSError):  # the server is gone
             while self.here and asyncio.get_running_loop().time() < ends and not await self.shows(device):
                 await asyncio.sleep(SOON)
 
-    def take(self, line):
+    def take(self, line: str) -> None:
         """Takes in what a line of the panel tells."""
         try:
             key, row = parse(line)
@@ -290,14 +310,14 @@ class Mirror:
             return self.drop((*key[:3], key[3] == "lock"), float(line.split(" ")[0]))
         before = self.rows.enter(key, row, key in self.stale)
         if key not in self.stale or before != row:  # one that is listed again as it was is no change
-            if key[1::2] == ("GL", "does"):
+            if isinstance(row, Drive):
                 self.drives(key[0], key[2], row)
             elif isinstance(row, Power):
                 self.powers(key[0], row)
             self.told(Change(row.stamp, key, row, before))
         self.stale.pop(key, None)
 
-    def drives(self, bus, address, row):
+    def drives(self, bus: int, address: int, row: Drive) -> None:
         """Notes the direction of a locomotive, or that it was stopped."""
         self.recent[bus, address].append(row)
         if row.mode == EMERGENCY_STOP:
@@ -316,7 +336,7 @@ class Mirror:
         """Returns the buses that have a driver: of this machine, or as far as this mirror was told."""
         return self.drivers | driven(self.server[1])
 
-    def drop(self, device, stamp=None):
+    def drop(self, device: Device, stamp: float | None = None) -> None:
         """Takes out all rows of a device."""
         for key in keys_of(device):
             self.stale.pop(key, None)

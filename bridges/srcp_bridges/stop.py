@@ -6,13 +6,21 @@ soon as it is told that, and says so by `all stood`. The rows of locomotives fol
 import asyncio
 import contextlib
 from collections import Counter
+from collections.abc import Callable, Collection, Iterable, Iterator, Mapping
+from typing import TYPE_CHECKING
 
-from srcp_bridges.rows import EMERGENCY_STOP, STOP_ALL, Drive, Refused, may_drive
+from srcp_bridges.rows import EMERGENCY_STOP, STOP_ALL, Drive, Power, Refused, Reply, may_drive
+
+if TYPE_CHECKING:
+    from srcp_bridges.srcp import Ask, Mirror, Session
 
 SOON = 0.01  # seconds until it is looked again whether a command is still on its way
 SETTLED = 0.1  # seconds after a STOP ALL until what drives by a command that other programs had sent is stopped too
 CONFIRMS = 1.0  # seconds within which the drivers say that all stand
 UNSURE = "not confirmed: trains may drive"
+
+Locomotive = tuple[int, int]  # bus and address
+Holders = Mapping[int, "Session"]  # sessions by their ids
 
 
 class Stops:
@@ -22,33 +30,33 @@ class Stops:
     to drive that wait for their reply. Both are by (bus, address).
     """
 
-    def __init__(self):
+    def __init__(self) -> None:
         self.all = 0
         self.running = 0
-        self.each: Counter = Counter()
-        self.due: Counter = Counter()
-        self.under_way: Counter = Counter()
+        self.each: Counter[Locomotive] = Counter()
+        self.due: Counter[Locomotive] = Counter()
+        self.under_way: Counter[Locomotive] = Counter()
 
-    def count(self, bus, address):
+    def count(self, bus: int, address: int) -> int:
         """Returns how often a locomotive was stopped, each STOP ALL included."""
         return self.all + self.each[bus, address]
 
-    def now(self):
+    def now(self) -> Callable[[int, int], int]:
         """Returns a function that counts as `count` does at this moment."""
         every, each = self.all, self.each.copy()
         return lambda bus, address: every + each[bus, address]
 
-    def refuse(self, bus, address, seen):
+    def refuse(self, bus: int, address: int, seen: int) -> None:
         """Refuses a command that was made as `seen` stops were counted, if there were more since."""
         if self.running or self.count(bus, address) > seen:
             raise Refused("it was stopped meanwhile")
 
-    def order_one(self, bus, address):
+    def order_one(self, bus: int, address: int) -> None:
         """Counts a stop that is ordered here: its row, which comes later, is not counted again."""
         self.each[bus, address] += 1
         self.due[bus, address] += 1
 
-    def stopped(self, bus, address):
+    def stopped(self, bus: int, address: int) -> None:
         """Counts a stop that a row tells."""
         if self.due[bus, address]:
             self.due[bus, address] -= 1
@@ -67,7 +75,7 @@ class Stops:
         return any(count for (_, address), count in self.due.items() if not address)
 
     @contextlib.contextmanager
-    def driving(self, bus, address, seen):
+    def driving(self, bus: int, address: int, seen: int) -> Iterator[None]:
         """Refuses as `refuse`, and counts the command as on its way until its reply has come."""
         self.refuse(bus, address, seen)
         self.under_way[bus, address] += 1
@@ -77,7 +85,7 @@ class Stops:
             self.under_way[bus, address] -= 1
 
     @contextlib.contextmanager
-    def stopping_all(self):
+    def stopping_all(self) -> Iterator[None]:
         """Counts a STOP ALL. Until it is done, nothing here drives a locomotive."""
         self.all += 1
         self.running += 1
@@ -87,7 +95,7 @@ class Stops:
             self.running -= 1
 
 
-def driven(command):
+def driven(command: str) -> Locomotive | None:
     """Returns the bus and address of the locomotive that a command has drive (V above 0), or None."""
     words = command.upper().split()
     numbers = words[1:2] + words[3:6]  # bus, address, mode, V
@@ -97,7 +105,7 @@ def driven(command):
     return (bus, address) if v and mode != EMERGENCY_STOP else None
 
 
-async def send(stops, session, command, seen):
+async def send(stops: Stops, session: "Session | Mirror", command: str, seen: int | None) -> Reply:
     """Carries out a command that was made as `seen` stops of its locomotive were counted, as Session.ask.
 
     It is refused if it has a locomotive drive that was stopped since. `seen` None: as it is sent.
@@ -108,39 +116,39 @@ async def send(stops, session, command, seen):
         return await session.ask(command)
 
 
-async def halt(mirror, ask, bus, address):
+async def halt(mirror: "Mirror", ask: "Ask", bus: int, address: int) -> None:
     """Has a locomotive make an emergency stop, and stand in its direction: the server is asked for that just before,
     since the stop takes it out of the row. A session's `ask` carries out the commands."""
-    most = mirror.rows.get((bus, "GL", address, "does"), Drive(0, 0, 0, 0, ())).v_max
+    most = (mirror.rows.get((bus, "GL", address, "does")) or Drive(0, 0, 0, 0, ())).v_max
     commands = f"GET {bus} GL {address}", f"SET {bus} GL {address} {EMERGENCY_STOP} 0 {most}"
     now, reply = await asyncio.gather(*map(ask, commands), return_exceptions=True)
     if isinstance(reply, BaseException):
         mirror.stops.due[bus, address] -= 1  # no row comes of it
         raise reply
-    way = mirror.way(bus, address) if isinstance(now, BaseException) else await mirror.way_by(bus, address, now)
+    way = await mirror.way_by(bus, address, now) if isinstance(now, Drive) else mirror.way(bus, address)
     with contextlib.suppress(Refused):  # it stands
         await ask(f"SET {bus} GL {address} {way} 0 {most}")
 
 
-async def stop_one(mirror, ask, bus, address):
+async def stop_one(mirror: "Mirror", ask: "Ask", bus: int, address: int) -> None:
     """Has one locomotive make an emergency stop."""
     mirror.stops.order_one(bus, address)
     await halt(mirror, ask, bus, address)
 
 
-async def stop_several(mirror, ask, locomotives):
+async def stop_several(mirror: "Mirror", ask: "Ask", locomotives: Collection[Locomotive]) -> list[str]:
     """Has each of these (bus, address) make an emergency stop, all at once; returns all refusals."""
     stops = [stop_one(mirror, ask, *locomotive) for locomotive in locomotives]
     return faults(locomotives, await asyncio.gather(*stops, return_exceptions=True))
 
 
-def faults(locomotives, replies):
+def faults(locomotives: Iterable[Locomotive], replies: Iterable[BaseException | None]) -> list[str]:
     """Returns what could not be stopped, and why. What is gone stands."""
     return [f"{bus} GL {address}: {reply}" for (bus, address), reply in zip(locomotives, replies)
             if reply and not str(reply).startswith("416")]
 
 
-async def stop_all(mirror, holders=None):
+async def stop_all(mirror: "Mirror", holders: Holders | None = None) -> list[str]:
     """Has all stand: tells each driver so at once, and has all locomotives that drive make an emergency stop.
 
     If another session has one locked, its bus's power goes off. `holders` has sessions by their ids: they command what
@@ -155,7 +163,7 @@ async def stop_all(mirror, holders=None):
         first = driving(mirror, not mirror.here) | under_way
         cut = {bus: asyncio.create_task(tell_stop(mirror, bus, False)) for bus in locked(mirror, holders, first)}
         told = [asyncio.create_task(tell_stop(mirror, bus, row.on))
-                for (bus, group, *_), row in mirror.rows.items() if group == "POWER" and bus not in cut]
+                for (bus, *_), row in mirror.rows.items() if isinstance(row, Power) and bus not in cut]
         refusals = await stop_those(mirror, holders, cut, first)
         await asyncio.gather(*told, *cut.values(), return_exceptions=True)
         while any(mirror.stops.under_way.values()):
@@ -166,14 +174,16 @@ async def stop_all(mirror, holders=None):
         return refusals + [f"{bus} POWER: {UNSURE}" for bus in await unsure(mirror)]
 
 
-def locked(mirror, holders, locomotives):
+def locked(mirror: "Mirror", holders: Holders, locomotives: Iterable[Locomotive]) -> set[int]:
     """Returns the buses on which another session has one of these locomotives locked."""
+    assert mirror.session
     locks = {locomotive: mirror.rows.get((locomotive[0], "GL", locomotive[1], "lock")) for locomotive in locomotives}
     return {bus for (bus, _), lock in locks.items() if lock and lock.session not in (*holders, mirror.session.id)}
 
 
-async def tell_stop(mirror, bus, on):
+async def tell_stop(mirror: "Mirror", bus: int, on: bool) -> None:
     """Tells all who follow a bus, its driver first of all, that all are to stand."""
+    assert mirror.session
     mirror.stops.due[bus, 0] += 1
     try:
         await mirror.session.ask(f"SET {bus} POWER {'ON' if on else 'OFF'} {STOP_ALL}")
@@ -182,14 +192,14 @@ async def tell_stop(mirror, bus, on):
         raise
 
 
-async def catches_up(mirror) -> None:
+async def catches_up(mirror: "Mirror") -> None:
     """Waits until the panel has told the STOP ALL, so all that drove before it too: it may be late."""
     ends = asyncio.get_running_loop().time() + CONFIRMS
     while mirror.here and mirror.stops.is_all_due() and asyncio.get_running_loop().time() < ends:
         await asyncio.sleep(SOON)
 
 
-async def unsure(mirror) -> list[int]:
+async def unsure(mirror: "Mirror") -> list[int]:
     """Waits until the drivers have confirmed the last STOP ALL; returns the buses of those that do not in time."""
     ends = asyncio.get_running_loop().time() + CONFIRMS
     late = sorted(mirror.driven())
@@ -203,18 +213,20 @@ async def unsure(mirror) -> list[int]:
     return late
 
 
-def driving(mirror, all_of_them=False):
+def driving(mirror: "Mirror", all_of_them: bool = False) -> set[Locomotive]:
     """Returns the locomotives that drive; or all, since the panel that tells which is away."""
-    return {(bus, address) for (bus, group, address, part), row in mirror.rows.items()
-            if (group, part) == ("GL", "does") and (row.v or all_of_them)}
+    return {(bus, address) for (bus, _, address, _), row in mirror.rows.items()
+            if isinstance(row, Drive) and (row.v or all_of_them)}
 
 
-async def stop_those(mirror, holders, cut, locomotives):
+async def stop_those(mirror: "Mirror", holders: Holders, cut: dict[int, asyncio.Task[None]],
+                     locomotives: Collection[Locomotive]) -> list[str]:
     """Stops these at once, as stop_all; `cut` has the tasks that take the power of a bus off."""
-    async def stop(bus, address):
+    async def stop(bus: int, address: int) -> None:
         lock = mirror.rows.get((bus, "GL", address, "lock"))
-        session = holders.get(lock and lock.session, mirror.session)
-        session = mirror.session if session.ended.done() else session
+        assert (own := mirror.session)
+        session = holders.get(lock.session, own) if lock else own
+        session = own if session.ended.done() else session
         try:
             mirror.stops.due[bus, address] += 1
             await halt(mirror, session.ask, bus, address)

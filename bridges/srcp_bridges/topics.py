@@ -1,9 +1,11 @@
 """Topics of MQTT: at which of them rows are shown and how, and which commands their payloads stand for."""
 import json
 import re
-from collections import namedtuple
+from collections.abc import Mapping
+from typing import NamedTuple
 
-from srcp_bridges.rows import position
+from srcp_bridges.rows import Device, Key, Power, Rows, position
+from srcp_bridges.stop import Locomotive
 
 NUMBER = "(0|[1-9][0-9]{0,8})"
 FORMS = [re.compile(form) for form in (
@@ -15,15 +17,24 @@ PULSE = 250  # milliseconds for which the port of a turnout is on
 SHARE = "{{ -(-100 * value_json.v // value_json.v_max) if value_json.v_max else value_json.v }}"
 BITS = {"ON": "1", "OFF": "0", "TRUE": "1", "FALSE": "0"}
 
-Wanted = namedtuple("Wanted", "mode v v_max functions", defaults=(None, None, None, {}))  # None: as it is
+Payload = str | None  # None: there is nothing any more
 
 
-def shown(rows, key):
+class Wanted(NamedTuple):
+    """What is wanted of a locomotive. None: as it is."""
+    mode: int | None = None
+    v: int | None = None
+    v_max: int | None = None
+    functions: dict[int, int] = {}
+
+
+def shown(rows: Rows, key: Key) -> dict[str, Payload]:
     """Returns the topics at which a row is shown, and their payloads: nothing for what is not there."""
     bus, group, address, part = key
     row, at = rows.get(key), f"{bus}/{group}" + f"/{address}" * (group != "POWER")
     if group == "POWER":
-        return {at: row and ("ON" if row.on else "OFF"), f"{at}/text": row and row.text}
+        power = row if isinstance(row, Power) else None
+        return {at: power and ("ON" if power.on else "OFF"), f"{at}/text": power and power.text}
     members = row and {name: value for name, value in row._asdict().items() if name != "stamp"}
     value = row and (str(row[1]) if len(row) == 2 else json.dumps(members))
     if isinstance(part, int):
@@ -32,12 +43,12 @@ def shown(rows, key):
     return {at if part == "does" or group == "SESSION" else f"{at}/{part}": value}
 
 
-def node(prefix):
+def node(prefix: str) -> str:
     """Returns the name under which Home Assistant and the broker know the bridge with this prefix."""
     return prefix.strip("/").replace("/", "_")
 
 
-def entity(rows, key, at):
+def entity(rows: Rows, key: Key, at: str) -> tuple[str, dict[str, object]] | None:
     """Returns the kind of the entity by which Home Assistant shows the device of a row, and its topics, or None."""
     bus, group, address, part = key
     if group == "POWER":
@@ -51,7 +62,7 @@ def entity(rows, key, at):
     if group == "GA" and part != "lock":
         ports = [str(port) for port in range(8) if (bus, group, address, port) in rows]
         return "select", {"state_topic": f"{at}/position", "command_topic": f"{at}/position/set", "options": ports}
-
+    return None
 
 def common(own: str, name: str, prefix: str) -> dict[str, object]:
     """Returns what each announcement to Home Assistant has: its name, who sends it, and whether that is there."""
@@ -65,7 +76,7 @@ def stop_button(prefix: str) -> tuple[str, str]:
     return f"button/{node(prefix)}/stop", json.dumps(words | common("stop", "STOP ALL", prefix))
 
 
-def announced(rows, key, prefix, names):
+def announced(rows: Rows, key: Key, prefix: str, names: Mapping[str, str]) -> tuple[str, Payload] | None:
     """Returns the topic, and the payload, by which Home Assistant learns of the device of a row, or None."""
     bus, group, address, _ = key
     at = f"{bus}/{group}" + f"/{address}" * (group != "POWER")
@@ -78,7 +89,7 @@ def announced(rows, key, prefix, names):
     return f"{kind}/{node(prefix)}/{own}", announcement
 
 
-def device_of(place):
+def device_of(place: str) -> Device | None:
     """Returns the device that a topic of our form (1/GL/3/is; 1_GL_3 of an announcement) is of, or None."""
     for form in FORMS:
         if match := form.fullmatch(place):
@@ -87,7 +98,7 @@ def device_of(place):
     return None
 
 
-def locomotive_of(place):
+def locomotive_of(place: str) -> Locomotive | None:
     """Returns bus and address, if this is the topic at which a locomotive is driven; else None."""
     device = device_of(place)
     if device is None:
@@ -96,7 +107,7 @@ def locomotive_of(place):
     return (bus, address) if place == f"{bus}/GL/{address}" else None
 
 
-def wanted_of(text):
+def wanted_of(text: str) -> Wanted:
     """Returns what a payload wants of a locomotive: it has a speed, or members of the row as JSON."""
     given = json.loads(text)
     given = given if isinstance(given, dict) else {"v": given}
@@ -113,7 +124,7 @@ def wanted_of(text):
     return Wanted(**words, functions={int(number): int(value) for number, value in numbered})
 
 
-def commands_for(rows, place, text):
+def commands_for(rows: Rows, place: str, text: str) -> list[str]:
     """Returns the commands of SRCP that a payload stands for; `place` is the topic without the prefix and /set."""
     if not COMMAND.fullmatch(place):
         raise ValueError("no such topic")

@@ -7,7 +7,7 @@ STOP_BREAKS = [  # the file, whose cases, what is wrong, the text, what stands i
     ("bus", "dcc-ex", "nobody sets the rows to rest that a killed page left",
      "call_later(FOLLOWS, self.holds.rest_all)", "call_later(FOLLOWS, print)"),
     ("bus", "dcc-ex", "a STOP ALL, or its answer, switches the power on",
-     "if row.on and before and not before.on and not switches(row):", "if False:"),
+     "if row.on and isinstance(before, Power) and not before.on and not switches(row):", "if False:"),
     ("bus", "dcc-ex", "what is not confirmed is told to nobody",
      "            self.tell_power(f\"{UNCONFIRMED} {addresses}\" if silent else CONFIRMED)\n", "            pass\n"),
     ("bus", "dcc-ex", "what slept drives on as its power comes",

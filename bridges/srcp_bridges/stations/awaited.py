@@ -5,6 +5,7 @@ No clock and no line is asked for here: who calls tells the moment, and tells th
 from typing import Any
 
 Part = tuple  # ("power",), ("cab", 3), ("function", 3, 0), ("turnout", 5)
+Value = Any  # of a cab its speed and direction, of another part a number
 SILENT = 2.0  # seconds after which it is told that the station does not confirm
 
 
@@ -13,14 +14,14 @@ class Awaited:
 
     def __init__(self, confirms: float):
         self.confirms = confirms  # seconds within which the station confirms what it was told
-        self.parts: dict[Part, tuple[float, Any]] = {}
+        self.parts: dict[Part, tuple[float, Value]] = {}
         self.since: dict[Part, float] = {}
 
-    def tell(self, part: Part, value: Any, now: float) -> None:
+    def tell(self, part: Part, value: Value, now: float) -> None:
         self.parts[part] = now, value
         self.since.setdefault(part, now)
 
-    def confirm(self, part: Part, value: Any) -> bool:
+    def confirm(self, part: Part, value: Value) -> bool:
         """Takes in that a part is so; returns whether that was awaited."""
         if part not in self.parts or self.parts[part][1] != value:
             return False
@@ -31,7 +32,7 @@ class Awaited:
         """Returns whether a locomotive has not confirmed its emergency stop."""
         return part in self.parts and self.parts[part][1][0] < 0
 
-    def take_late(self, now: float) -> list[tuple[Part, Any]]:
+    def take_late(self, now: float) -> list[tuple[Part, Value]]:
         """Returns what is to be told again. It is awaited no more until it has been."""
         late = [(part, value) for part, (moment, value) in self.parts.items() if moment < now - self.confirms]
         for part, _ in late:

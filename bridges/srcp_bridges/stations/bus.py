@@ -1,11 +1,12 @@
 """A bus of the server, and the track that it stands for."""
+import argparse
 import asyncio
-from collections.abc import Callable
+from collections.abc import Callable, Mapping
 from functools import partial
 
 from srcp_bridges.program import say
 from srcp_bridges.rows import (ALL_STOOD, CONFIRMED, EMERGENCY_STOP, NO_DRIVER, NO_STATION, STOP_ALL, THROWN,
-                               UNCONFIRMED, Power, switches)
+                               UNCONFIRMED, Accessory, Change, Drive, Locomotive, Power, switches)
 from srcp_bridges.srcp import Mirror
 from srcp_bridges.state import driven
 from srcp_bridges.stations.holds import Holds
@@ -24,7 +25,7 @@ class Bus:
     that do not confirm what they are told.
     """
 
-    def __init__(self, asked, names, stop_at_once):
+    def __init__(self, asked: argparse.Namespace, names: Mapping[str, str], stop_at_once: Callable[[], None]):
         self.number = asked.bus
         self.patience = asked.patience
         self.names = names
@@ -41,14 +42,14 @@ class Bus:
         self.told_of: set[str] = set()  # devices that cannot be driven
         self.untold: list[str] = []
         self.slotless: set[int] = set()  # locomotives for which there was no slot as they were to drive
-        self.patience_ends = None
+        self.patience_ends: asyncio.TimerHandle | None = None
         self.joined = asyncio.Event()
 
     # ---- rows
 
-    def take(self, change):
+    def take(self, change: Change) -> None:
         bus, group, address, part = change.key
-        if part == "is" and group in ("GL", "GA") and change.row:
+        if isinstance(change.row, (Locomotive, Accessory)):
             self.look_at(bus, group, address, change.row)
         if bus != self.number:
             return
@@ -67,14 +68,16 @@ class Bus:
                 self.track.forgets(("cab", address))
             self.gone(address)
 
-    def is_listed(self, change):
+    def is_listed(self, change: Change) -> bool:
         """Returns whether a row comes with a listing: it may have been commanded long ago."""
         return change.before is None or change.key in self.mirror.stale
 
-    def power(self, change):
+    def power(self, change: Change) -> None:
         row, before = change.row, change.before
+        assert isinstance(row, Power)
         self.holds.take(POWER, row, self.is_listed(change))
-        if row.on and before and not before.on and not switches(row):  # it went off as that was on its way
+        if row.on and isinstance(before, Power) and not before.on and not switches(row):
+            # The power went off as that row was on its way.
             self.holds.hold(POWER, row, STOP_ALL if row.text == STOP_ALL else before.text)
         if row.text == STOP_ALL:
             self.stop_all(row)
@@ -120,9 +123,10 @@ class Bus:
         if row and (answers or row.on and text.startswith((STOP_ALL, UNCONFIRMED))):
             await self.mirror.ask(f"SET {self.number} POWER {'ON' if row.on else 'OFF'} {text}")
 
-    def locomotive(self, address, change):
+    def locomotive(self, address: int, change: Change) -> None:
         row = change.row
         before = change.before
+        assert isinstance(row, Drive)
         part = ("cab", address)
         made, _ = self.track.locomotive(address)
         if row.mode == EMERGENCY_STOP and part in self.track.told:
@@ -131,14 +135,14 @@ class Bus:
             self.holds.take(part, row, self.is_listed(change))
         elif row.v:
             self.holds.hold(part, row, "")
-        if before is None:
+        if not isinstance(before, Drive):
             return self.track.take_in(address)
         self.track.mark(part)
         for number, (old, new) in enumerate(zip(before.functions, row.functions)):
             if old != new:
                 self.track.mark(("function", address, number))
 
-    def gone(self, address):
+    def gone(self, address: int) -> None:
         self.holds.free(("cab", address))
         self.track.stops.discard(address)
         self.slotless.discard(address)
@@ -151,11 +155,11 @@ class Bus:
 
     # ---- what cannot be driven
 
-    def look_at(self, bus, group, address, row):
+    def look_at(self, bus: int, group: str, address: int, row: Locomotive | Accessory) -> None:
         if why := self.fault_of(bus, group, address, row):
             self.leave_out(f"{bus} {group} {address}", why)
 
-    def fault_of(self, bus, group, address, row):
+    def fault_of(self, bus: int, group: str, address: int, row: Locomotive | Accessory) -> str | None:
         """Returns why a device is not driven, or None."""
         if bus != self.number:
             return None if bus in self.elsewhere else f"not on bus {self.number}"
@@ -163,24 +167,26 @@ class Bus:
             return f"protocol {row.protocol}"
         return f"the station has {self.track.slots} slots" if group == "GL" and address in self.slotless else None
 
-    def left_out(self):
+    def left_out(self) -> dict[str, str]:
         """Returns why devices are not driven, by their names."""
         self.slotless -= self.track.known
         self.elsewhere = driven(self.mirror.server[1])
-        made = [(key, row) for key, row in self.mirror.rows.items() if key[1] in ("GL", "GA") and key[3] == "is"]
+        made = [(key, row) for key, row in self.mirror.rows.items() if isinstance(row, (Locomotive, Accessory))]
         faults = {f"{bus} {group} {address}": self.fault_of(bus, group, address, row)
                   for (bus, group, address, _), row in made}
         return {name: why for name, why in faults.items() if why}
 
-    def full(self, address):
+    def full(self, address: int) -> None:
         """The station has no slot left for a locomotive: it stands, and its row says so."""
         self.slotless.add(address)
-        self.look_at(self.number, "GL", address, self.mirror.rows[self.number, "GL", address, "is"])
-        row = self.mirror.rows[self.number, "GL", address, "does"]
+        made = self.mirror.rows.get((self.number, "GL", address, "is"))
+        row = self.mirror.rows.get((self.number, "GL", address, "does"))
+        assert made and row
+        self.look_at(self.number, "GL", address, made)
         if row.v:
             self.holds.hold(("cab", address), row, "")
 
-    def leave_out(self, name, why):
+    def leave_out(self, name: str, why: str) -> None:
         """Tells of a device that is not driven, once; those of one moment together."""
         if name in self.told_of:
             return
@@ -190,13 +196,13 @@ class Bus:
         called = f" {self.names[name]}" if name in self.names else ""
         self.untold.append(f"{name}{called} ({why})")
 
-    def tell_left_out(self):
+    def tell_left_out(self) -> None:
         say(f"not driven: {', '.join(self.untold)}")
         self.untold.clear()
 
     # ---- losses
 
-    def join(self, anew):
+    def join(self, anew: bool) -> None:
         if self.patience_ends:
             self.patience_ends.cancel()
         self.elsewhere = driven(self.mirror.server[1])
@@ -206,16 +212,16 @@ class Bus:
         self.track.mark_all()
         self.joined.set()
 
-    def leave(self):
+    def leave(self) -> None:
         self.holds.server_leaves()
         self.patience_ends = asyncio.get_running_loop().call_later(self.patience, self.lose_server)
 
-    def lose_server(self):
+    def lose_server(self) -> None:
         self.holds.server_goes()
         self.mark_held()
         self.stop_unseen()
 
-    def lose(self, why):
+    def lose(self, why: str) -> None:
         """Has all rest that is on or drives, until somebody commands it anew."""
         self.holds.lose(why)
         self.mark_held()
@@ -227,14 +233,14 @@ class Bus:
         for address in sorted(self.addresses() - {part[-1] for part in self.holds.held} if self.track.at_first else ()):
             self.track.forgets(("cab", address))
 
-    def mark_held(self):
+    def mark_held(self) -> None:
         for part in list(self.holds.held):
             self.track.mark(part)
 
-    def station_comes(self):
+    def station_comes(self) -> None:
         self.holds.station_comes()
         self.track.begin_anew()
 
-    def station_goes(self):
+    def station_goes(self) -> None:
         self.stopping, self.silent = False, frozenset()
         self.holds.station_goes()

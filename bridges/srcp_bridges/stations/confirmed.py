@@ -1,9 +1,10 @@
 """A driver of a station that may miss commands: it is told again what it does not confirm."""
+import argparse
 import asyncio
-from typing import Any
+from collections.abc import Coroutine
 
 from srcp_bridges.rows import FORWARD
-from srcp_bridges.stations.awaited import Awaited
+from srcp_bridges.stations.awaited import Awaited, Part, Value
 from srcp_bridges.stations.hands import OFF
 from srcp_bridges.stations.registry import POWER
 from srcp_bridges.stations.station import PACE, Station
@@ -24,7 +25,7 @@ class Confirmed(Station):
     IN_ORDER = False  # what it is told comes in order, or not at all: then a stop waits for no speed to be confirmed
     CONFIRMED: tuple[str, ...] = "power", "cab", "function"  # the kinds of parts that it confirms
 
-    def __init__(self, asked):
+    def __init__(self, asked: argparse.Namespace):
         super().__init__(asked)
         self.awaited = Awaited(CONFIRMS)
         self.track.awaits = self.awaits
@@ -33,7 +34,7 @@ class Confirmed(Station):
     def look(self) -> None:
         """Asks for what the station may have reported in vain."""
 
-    def awaits(self, part):
+    def awaits(self, part: Part) -> bool:
         """Returns whether a part is told nothing yet. A locomotive is forgotten after all of its parts are confirmed,
         and power comes after all stops are."""
         if part[0] == "forget":
@@ -50,18 +51,18 @@ class Confirmed(Station):
         waits = any(part[0] == "cab" for waiting in self.track.waiting[:DRIVING] for part in waiting)
         return waits or self.awaited.stops(asyncio.get_running_loop().time())
 
-    def telling(self, part, value):
+    def telling(self, part: Part, value: Value) -> None:
         super().telling(part, value)
         if part[0] in self.CONFIRMED:
             self.awaited.tell(part, value, asyncio.get_running_loop().time())
 
-    def has_heard(self, part, value):
+    def has_heard(self, part: Part, value: Value) -> bool:
         """Returns whether a report may tell what a hand does: not if the station is to be told something else."""
         if part in self.awaited.parts:
             return value == self.awaited.parts[part][1]
         return all(value == waiting.get(part, value) for waiting in self.track.waiting)
 
-    def confirm(self, part: tuple, value: Any) -> bool:
+    def confirm(self, part: Part, value: Value) -> bool:
         """Takes in that a part is so; returns whether that was awaited."""
         if is_so := self.awaited.confirm(part, value):
             self.hands.reports.sent[part].clear()
@@ -69,13 +70,13 @@ class Confirmed(Station):
             self.track.changed.set()
         return is_so
 
-    def heard_power(self, on, why=OFF):
+    def heard_power(self, on: int, why: str = OFF) -> None:
         """Takes a report of the power, and why it is off."""
         if not on or self.has_heard(POWER, on):
             self.hands.power(on, why)
         self.confirm(POWER, on)
 
-    def heard_locomotive(self, address, drives, functions):
+    def heard_locomotive(self, address: int, drives: tuple[int, int], functions: int) -> None:
         """Takes a report of a locomotive: its speed and direction, and a bit for each function."""
         part = "cab", address
         before = self.hands.reports.reported.get(part, (0, FORWARD))
@@ -89,35 +90,35 @@ class Confirmed(Station):
         for number in range(FUNCTIONS):
             self.confirm(("function", address, number), functions >> number & 1)
 
-    def greeted(self, message):
+    def greeted(self, message: str) -> None:
         self.awaited.clear()
         super().greeted(message)
 
-    def stands(self):
+    def stands(self) -> bool:
         """All have confirmed that they stand, also those that a hand drives and that the registry does not have."""
         hands = any(speed > 0 for speed, *_ in self.track.others.values())
         return super().stands() and not hands and not self.is_stopping() and not self.bus.silent
 
-    def ask_sensors(self):
+    def ask_sensors(self) -> None:
         """A server that was started anew knows of no sensor."""
         self.sensed.clear()
         super().ask_sensors()
 
-    def sense(self, address, value):
+    def sense(self, address: int, value: int) -> None:
         """Takes what is reported of a sensor again and again. A change is told, unless too many wait."""
         row = self.bus.mirror.rows.get((self.bus.number, "FB", address, "does"))
         if value != self.sensed.get(address, row.value if row else 0) and not self.sensors.full():
             self.sensed[address] = value
             self.sensor(address, value)
 
-    def tell_again(self):
+    def tell_again(self) -> None:
         """Has the station told again what it has not confirmed for a while."""
         for part, value in self.awaited.take_late(asyncio.get_running_loop().time()):
             if part[0] == "cab" and value[0] < 0:
                 self.track.stops.add(part[1])
             self.track.forgets(part)
 
-    async def tend(self):
+    async def tend(self) -> None:
         now = looked = asyncio.get_running_loop().time()
         while True:
             looked, now = now, asyncio.get_running_loop().time()
@@ -130,10 +131,10 @@ class Confirmed(Station):
                 self.look_whether_all_stand()
             await asyncio.sleep(TICK)
 
-    def tasks(self):
+    def tasks(self) -> list[Coroutine[object, object, None]]:
         return [*super().tasks(), self.tend()]
 
-    async def leave(self):
+    async def leave(self) -> None:
         """Has all stand, and takes the power off, until the station has confirmed that."""
         self.bus.station_goes()
         if self.IN_ORDER:

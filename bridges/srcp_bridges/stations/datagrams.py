@@ -1,29 +1,32 @@
 """Datagrams to and from a command station, by UDP."""
 import asyncio
 
+from srcp_bridges.stations.line import Place
+
 UNREAD = 1000  # datagrams that wait to be read; further ones are lost, as any datagram may be
 
 
 class Datagrams(asyncio.DatagramProtocol):
     """What a Line is to bytes, for datagrams: `write` and `drain`, `read`, which returns one of them, and `close`."""
 
-    def __init__(self):
+    def __init__(self) -> None:
         self.unread: asyncio.Queue[bytes | Exception] = asyncio.Queue(UNREAD)
         self.transport: asyncio.DatagramTransport
 
     @classmethod
-    async def open(cls, where):
+    async def open(cls, where: Place) -> "Datagrams":
         """Opens the way to a host and port."""
         return (await asyncio.get_running_loop().create_datagram_endpoint(cls, remote_addr=where))[1]
 
-    def connection_made(self, transport):
+    def connection_made(self, transport: asyncio.BaseTransport) -> None:
+        assert isinstance(transport, asyncio.DatagramTransport)
         self.transport = transport
 
-    def datagram_received(self, data, _):
+    def datagram_received(self, data: bytes | Exception, _: object) -> None:
         if not self.unread.full():
             self.unread.put_nowait(data)
 
-    def error_received(self, fault):
+    def error_received(self, fault: Exception) -> None:
         """Nobody listens there, or the network is gone."""
         self.datagram_received(fault, None)
 
@@ -31,18 +34,18 @@ class Datagrams(asyncio.DatagramProtocol):
         """Returns the number by which the system knows the socket."""
         return self.transport.get_extra_info("socket").fileno()
 
-    def write(self, data):
+    def write(self, data: bytes) -> None:
         if data and not self.transport.is_closing():
             self.transport.sendto(data)
 
-    async def drain(self):
+    async def drain(self) -> None:
         """Datagrams wait for nothing."""
 
-    async def read(self, _):
+    async def read(self, _: bytes) -> bytes:
         """Returns what comes next. Each is whole: they need no end."""
         if isinstance(data := await self.unread.get(), Exception):
             raise data
         return data
 
-    def close(self):
+    def close(self) -> None:
         self.transport.close()

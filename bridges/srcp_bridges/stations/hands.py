@@ -4,10 +4,12 @@ from functools import partial
 
 from srcp_bridges.driving import switch
 from srcp_bridges.program import say
-from srcp_bridges.rows import FORWARD, STOP_ALL, Refused
+from srcp_bridges.rows import FORWARD, STOP_ALL, Drive, Refused
+from srcp_bridges.stations.awaited import Part, Value
+from srcp_bridges.stations.bus import Bus
 from srcp_bridges.stations.registry import POWER
 from srcp_bridges.stations.reports import Reports
-from srcp_bridges.stations.track import FUNCTIONS
+from srcp_bridges.stations.track import FUNCTIONS, Seen
 from srcp_bridges.stop import send, stop_one
 
 # Why the power is off.
@@ -24,7 +26,7 @@ class Hands:
     `forgotten` has those that the station has forgotten since.
     """
 
-    def __init__(self, bus):
+    def __init__(self, bus: Bus):
         self.bus = bus
         self.track = bus.track
         self.orders = bus.orders
@@ -32,11 +34,11 @@ class Hands:
         self.reports = Reports()
         self.refused: set[int] = set()
         self.stopped: dict[int, float] = {}  # when a hand had a locomotive make an emergency stop
-        self.driven: dict[int, tuple] = {}
+        self.driven: dict[int, tuple[float, ...]] = {}
         self.forgotten: set[int] = set()
         self.track.drive_on = self.locomotive
 
-    def is_news(self, part, value, usual=None):
+    def is_news(self, part: Part, value: Value, usual: Value = None) -> bool:
         """Returns whether a report is no echo; what the station was told last is then what it reports."""
         if not self.reports.is_news(part, value, usual):
             return False
@@ -44,7 +46,7 @@ class Hands:
             self.track.told[part] = value
         return True
 
-    def power(self, on, why=OFF):
+    def power(self, on: int, why: str = OFF) -> None:
         """Takes a report of the power. What is off stays off until somebody switches it on."""
         if not self.is_news(POWER, on):
             return
@@ -53,11 +55,11 @@ class Hands:
         else:
             self.bus.lose(why)
 
-    def overload(self):
+    def overload(self) -> None:
         """The station has cut its power. It would try again by itself: so it is told to stay off."""
         self.bus.lose("overload")
 
-    def locomotive(self, address, speed, way, functions, seen=None):
+    def locomotive(self, address: int, speed: int, way: int, functions: int, seen: Seen | None = None) -> None:
         """Takes a report of a locomotive; `functions` has a bit for each. `seen`: the stops and losses counted then."""
         made, drive = self.track.locomotive(address)
         seen = seen or (self.mirror.stops.count(self.bus.number, address), self.bus.holds.losses)
@@ -73,20 +75,21 @@ class Hands:
         if self.is_news(part, value, (0, FORWARD)):
             self.drives(address, speed, way, drive, seen)
         for number in range(len(drive.functions)):
-            value = functions >> number & 1
-            if self.is_news(("function", address, number), value, 0):
+            on = functions >> number & 1
+            if self.is_news(("function", address, number), on, 0):
                 ask = partial(send, self.mirror.stops, self.mirror)
-                act = partial(switch, self.mirror, ask, self.bus.number, address, {number: value})
+                act = partial(switch, self.mirror, ask, self.bus.number, address, {number: on})
                 self.orders.put(("function", address, number), act)
 
-    async def make(self, address):
+    async def make(self, address: int) -> None:
         """Makes a locomotive that a hand drives, unless it is there. Once its row is told, that is set as it drives."""
         if await self.mirror.has((self.bus.number, "GL", address, False)):
             return
         self.track.making.add(address)
         made = f"GL {address} N 1 {self.track.top_of(address)} {FUNCTIONS}"
         try:
-            return await self.mirror.ask(f"INIT {self.bus.number} {made}")
+            await self.mirror.ask(f"INIT {self.bus.number} {made}")
+            return
         except ConnectionError:
             pass  # it stands when the server is back
         except Refused as reply:
@@ -96,7 +99,7 @@ class Hands:
             self.refused.add(address)
         self.track.making.discard(address)
 
-    def drives(self, address, speed, way, drive, seen):
+    def drives(self, address: int, speed: int, way: int, drive: Drive, seen: Seen) -> None:
         """A hand throttle drives a locomotive. If its row may not be changed, or was stopped meanwhile, the station is
         told the row again, but a stop stays."""
         self.driven[address] = ()
@@ -120,7 +123,7 @@ class Hands:
         self.stopped = recent | {address: now}
         return len(self.stopped) > 1 and not self.track.driving()
 
-    async def start(self, command, stops, losses):
+    async def start(self, command: str, stops: int, losses: int) -> None:
         """Has a locomotive drive, if it was not stopped and nothing was lost since a hand had it drive."""
         if self.bus.holds.losses > losses:
             raise Refused("something was lost meanwhile")

@@ -3,6 +3,7 @@
 A process of its own says them, which has the driver's line too. It tells the registry `POWER OFF no driver`. It needs
 nothing but the standard library, and nothing of the driver but its end of a socket, which closes as the driver ends.
 """
+import argparse
 import contextlib
 import fcntl
 import os
@@ -26,11 +27,11 @@ WORDS, TAKEN_BACK, ALIVE = b"W", b"T", b"A"  # how messages begin
 class LastWords:
     """The driver's side: `leave` words with an open line, and `take_back` those that are not to be said."""
 
-    def __init__(self, asked, times: int):
+    def __init__(self, asked: argparse.Namespace, times: int):
         """`times`: how often they are said, since a command may be lost."""
         self.about = asked.host, asked.port, asked.bus, asked.asleep, times
         self.way: socket.socket | None = None
-        self.process: subprocess.Popen | None = None
+        self.process: subprocess.Popen[bytes] | None = None
 
     def leave(self, line: int, words: bytes) -> None:
         """Leaves what a line is told at the end."""

@@ -11,9 +11,10 @@ import tty
 from srcp_bridges.program import CannotGoOn, Wrong
 
 UNSENT = 65536  # bytes that wait for a station that reads nothing; then its line is opened anew
+Place = tuple[str, int]  # host and port
 
 
-def place(name):
+def place(name: str) -> str | Place:
     """Returns a serial line (/dev/ttyACM0), or the host and port that a name such as `HOST:2560` tells."""
     if name.startswith("/"):
         if os.path.exists(name) and not stat.S_ISCHR(os.stat(name).st_mode):
@@ -22,7 +23,7 @@ def place(name):
     return network_place(name, "neither a serial line (/dev/ttyACM0) nor HOST:PORT")
 
 
-def network_place(name, fault, usual=None):
+def network_place(name: str, fault: str, usual: int | None = None) -> Place:
     """Returns the host and port that a name tells. `usual` is the port of one that tells none."""
     host, _, port = (name if usual is None or ":" in name.rpartition("]")[2] else f"{name}:{usual}").rpartition(":")
     if not host or not port.isdecimal() or not 1 <= int(port) <= 65535:
@@ -30,7 +31,7 @@ def network_place(name, fault, usual=None):
     return host.strip("[]"), int(port)
 
 
-def serial(name):
+def serial(name: str) -> int:
     """Opens a serial line for this program alone: others are refused by the system, and ours by the lock. That goes as
     this process ends, though the one that says its last words has the line too."""
     line = os.open(name, os.O_RDWR | os.O_NOCTTY | os.O_NONBLOCK)
@@ -57,14 +58,14 @@ def serial(name):
 class Line:
     """An open line: `write` and `drain`, `read` up to and with some byte, and `close`."""
 
-    def __init__(self, reader, writer, reading):
+    def __init__(self, reader: asyncio.StreamReader, writer: asyncio.StreamWriter, reading: asyncio.BaseTransport):
         self.reader = reader
         self.writer = writer
         self.reading = reading
         writer.transport.set_write_buffer_limits(0)
 
     @classmethod
-    async def open(cls, where):
+    async def open(cls, where: str | Place) -> "Line":
         """Opens what `place` has returned."""
         if not isinstance(where, str):
             reader, writer = await asyncio.open_connection(*where)
@@ -80,15 +81,15 @@ class Line:
         """Returns the number by which the system knows the line."""
         return (self.writer.get_extra_info("socket") or self.writer.get_extra_info("pipe")).fileno()
 
-    def write(self, data):
+    def write(self, data: bytes) -> None:
         self.writer.write(data)
         if self.writer.transport.get_write_buffer_size() > UNSENT:
             raise ConnectionError("takes nothing")
 
-    async def drain(self):
+    async def drain(self) -> None:
         await self.writer.drain()
 
-    async def read(self, end):
+    async def read(self, end: bytes) -> bytes:
         """Returns what comes, up to and with the byte `end`."""
         try:
             return await self.reader.readuntil(end)
@@ -97,7 +98,7 @@ class Line:
         except asyncio.LimitOverrunError:
             raise ConnectionError("a message without an end") from None
 
-    def close(self):
+    def close(self) -> None:
         if (pipe := self.writer.get_extra_info("pipe")) and not pipe.closed:
             with contextlib.suppress(OSError, termios.error):  # that process may not have closed it yet
                 fcntl.ioctl(pipe, termios.TIOCNXCL)

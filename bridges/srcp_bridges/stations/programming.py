@@ -1,12 +1,16 @@
 """A door of a driver, by which programs of this machine have its station read and write the CVs of a decoder."""
+from __future__ import annotations
+
 import asyncio
 import contextlib
 import os
 import re
-
+from typing import TYPE_CHECKING
 from srcp_bridges.program import say
 from srcp_bridges.state import folder
 
+if TYPE_CHECKING:
+    from srcp_bridges.stations.station import Station
 LIMIT = 15.0  # seconds that a station may take for a CV
 # What a station may say in place of a value.
 NOBODY = -1
@@ -27,7 +31,7 @@ class Programming:
     which it is told again, or None.
     """
 
-    def __init__(self, station, beside: bool, repeats: float | None):
+    def __init__(self, station: Station, beside: bool, repeats: float | None):
         self.station = station
         self.beside = beside
         self.repeats = repeats

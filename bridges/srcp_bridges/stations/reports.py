@@ -2,6 +2,7 @@
 import asyncio
 from collections import defaultdict, deque
 
+from srcp_bridges.stations.awaited import Part, Value
 LATE = 10.0  # seconds within which an echo comes: after less silence the line is opened anew
 REPORTED = "power", "cab", "function"
 
@@ -9,31 +10,31 @@ REPORTED = "power", "cab", "function"
 class Reports:
     """`sent` has, by part, the values that the station was told and has not echoed yet, with their moments."""
 
-    def __init__(self):
-        self.sent: defaultdict = defaultdict(deque)
-        self.reported: dict = {}
+    def __init__(self) -> None:
+        self.sent: defaultdict[Part, deque[tuple[float, Value]]] = defaultdict(deque)
+        self.reported: dict[Part, Value] = {}
         self.all_stop = -LATE  # when it was told to stop all
-        self.stopped = set()  # the cabs that have echoed that
+        self.stopped: set[Part] = set()  # the cabs that have echoed that
 
-    def clear(self):
+    def clear(self) -> None:
         self.sent.clear()
         self.reported.clear()
 
-    def telling_all_to_stop(self):
+    def telling_all_to_stop(self) -> None:
         self.all_stop, self.stopped = asyncio.get_running_loop().time(), set()
 
-    def telling(self, part, value):
+    def telling(self, part: Part, value: Value) -> None:
         if part[0] in REPORTED:
             self.awaited(part).append((asyncio.get_running_loop().time(), value))
 
-    def awaited(self, part):
+    def awaited(self, part: Part) -> deque[tuple[float, Value]]:
         """Returns what the station is still to echo of a part. What it does not echo in time it never will."""
         sent, now = self.sent[part], asyncio.get_running_loop().time()
         while sent and sent[0][0] < now - LATE:
             sent.popleft()
         return sent
 
-    def is_news(self, part, value, usual=None):
+    def is_news(self, part: Part, value: Value, usual: Value = None) -> bool:
         """Returns whether a reported value is the doing of a hand throttle. `usual`: what a part is at first."""
         sent, now = self.awaited(part), asyncio.get_running_loop().time()
         if value == self.reported.get(part):

@@ -1,14 +1,14 @@
 """What every driver of a command station does: tells it what differs, and the registry what the track does."""
+import argparse
 import asyncio
 import contextlib
 import time
 from collections.abc import Coroutine
-from typing import Any
 
-from srcp_bridges.program import BUS, arguments, names, say
+from srcp_bridges.program import BUS, Arguments, arguments, names, say
 from srcp_bridges.rows import Refused
 from srcp_bridges.state import SELF
-from srcp_bridges.stations.awaited import Ahead
+from srcp_bridges.stations.awaited import Ahead, Part, Value
 from srcp_bridges.stations.bus import Bus
 from srcp_bridges.stations.datagrams import Datagrams
 from srcp_bridges.stations.hands import Hands
@@ -44,14 +44,14 @@ class Station:
     ROOM, MOST, RESERVE = 48, 27, 16  # as Ahead has them: an Arduino Mega has 64 bytes for what comes in
     TIMES = 5  # how often the last words are said, since some may be lost
 
-    def __init__(self, asked):
+    def __init__(self, asked: argparse.Namespace):
         self.name = asked.station
         self.silence = asked.silence
         self.again = asked.again
         self.bus = Bus(asked, names(asked.names), self.stop_at_once)
         self.track = self.bus.track
         self.hands = Hands(self.bus)
-        self.sensors: asyncio.Queue = asyncio.Queue(1000)
+        self.sensors: asyncio.Queue[tuple[int, int]] = asyncio.Queue(1000)
         self.ready = asyncio.Event()
         self.answered = asyncio.Event()
         self.unanswered = 0
@@ -69,7 +69,7 @@ class Station:
     def take(self, message: bytes) -> None:
         raise NotImplementedError
 
-    def encode(self, part: tuple, value: Any) -> bytes:
+    def encode(self, part: Part, value: Value) -> bytes:
         raise NotImplementedError
 
     def encode_cv(self, cv: int, value: int | None) -> bytes:
@@ -77,7 +77,7 @@ class Station:
 
     # ---- what `take` calls
 
-    def greeted(self, message):
+    def greeted(self, message: str) -> None:
         """The station has just started, or answers the first question: it stops all, and nothing starts by itself."""
         say(f"station: {message}")
         self.programming.lose()
@@ -92,7 +92,7 @@ class Station:
             self.bus.station_comes()
         self.ask_sensors()
 
-    def say_stop_all(self):
+    def say_stop_all(self) -> None:
         self.hands.reports.telling_all_to_stop()
         self.line.write(self.STOP_ALL)
 
@@ -113,19 +113,19 @@ class Station:
         if self.bus.stopping and self.stands():
             self.bus.all_stood()
 
-    def ask_sensors(self):
+    def ask_sensors(self) -> None:
         self.line.write(self.SENSORS)
 
-    def alive(self):
+    def alive(self) -> None:
         self.heard = True
         self.answered.set()
 
-    def sensor(self, address, value):
+    def sensor(self, address: int, value: int) -> None:
         self.sensors.put_nowait((address, value))
 
     # ---- tasks
 
-    async def hear(self):
+    async def hear(self) -> None:
         """Takes what the station says, until its line is lost."""
         while True:
             message = await self.line.read(self.END)
@@ -135,7 +135,7 @@ class Station:
             while self.sensors.full():
                 await asyncio.sleep(PACE)
 
-    async def tell(self):
+    async def tell(self) -> None:
         """Asks the station who it is until it answers, and then tells it what differs."""
         self.questions = 0
         self.ahead.has_read()
@@ -175,7 +175,7 @@ class Station:
             for task in waits:
                 task.cancel()
 
-    def tell_one(self):
+    def tell_one(self) -> bool:
         """Tells the station the most urgent of what differs; returns whether there was something."""
         if not (found := self.track.next()):
             return False
@@ -190,15 +190,15 @@ class Station:
             self.hands.forgotten.discard(numbers[0])
         return True
 
-    def command(self, part: tuple, value: Any) -> bytes:
+    def command(self, part: Part, value: Value) -> bytes:
         """Returns what the station is told of a part, and asked with it."""
         return self.encode(part, value)
 
-    def telling(self, part, value):
+    def telling(self, part: Part, value: Value) -> None:
         """Notes what the station is told, for what it reports then."""
         self.hands.reports.telling(part, value)
 
-    async def ask(self, question, answered):
+    async def ask(self, question: bytes, answered: asyncio.Event) -> None:
         """Asks the station something, and waits a while for its answer."""
         answered.clear()
         self.line.write(question)
@@ -206,7 +206,7 @@ class Station:
             async with asyncio.timeout(self.ANSWER):  # wait_for of Python 3.11 loses a cancellation
                 await answered.wait()
 
-    async def beat(self):
+    async def beat(self) -> None:
         """Asks for something small now and then: one that answers nothing is gone."""
         while True:
             await asyncio.sleep(self.silence / (UNANSWERED + 1))
@@ -215,7 +215,7 @@ class Station:
             self.unanswered += 1
             self.line.write(self.ALIVE)
 
-    async def serve(self):
+    async def serve(self) -> None:
         """Serves the station over one opening of its line; has all stand, and takes the power off, at the end."""
         self.line, self.unanswered = await self.connect(), 0
         self.last_words.leave(self.line.number(), self.STOP_ALL + self.encode(POWER, 0))
@@ -233,17 +233,17 @@ class Station:
             self.last_words.take_back()
             self.line.close()
 
-    def tasks(self) -> list[Coroutine]:
+    def tasks(self) -> list[Coroutine[object, object, None]]:
         """Returns what is done over one opening of the line."""
         return [self.hear(), self.tell(), self.beat(), self.last_words.run()]
 
-    async def leave(self):
+    async def leave(self) -> None:
         """Has all stand, and takes the power off."""
         self.line.write(self.STOP_ALL + self.encode(POWER, 0))
         async with asyncio.timeout(ASK):
             await self.line.drain()
 
-    async def keep_line(self):
+    async def keep_line(self) -> None:
         while True:
             try:
                 await self.serve()
@@ -255,7 +255,7 @@ class Station:
                 self.bus.station_goes()
             await asyncio.sleep(self.again)
 
-    async def on_join(self):
+    async def on_join(self) -> None:
         """A server that was started anew knows of no sensor: has the station tell of all."""
         while True:
             await self.bus.joined.wait()
@@ -265,7 +265,7 @@ class Station:
                     self.ask_sensors()
                 await self.bus.mirror.look_for_bus(self.bus.number)
 
-    async def feedback(self):
+    async def feedback(self) -> None:
         """Sets what the sensors report."""
         while True:
             address, value = await self.sensors.get()
@@ -276,7 +276,7 @@ class Station:
             except ConnectionError:
                 pass  # all sensors are asked for when the server is back
 
-    async def tell_of_itself(self):
+    async def tell_of_itself(self) -> None:
         """Tells doctor.py how the station is, what is not driven, and what was told last of each locomotive."""
         while True:
             SELF.tell_station(bus=self.bus.number, name=self.name, here=self.ready.is_set(), slots=self.track.slots,
@@ -284,7 +284,7 @@ class Station:
                               forgotten=sorted(self.hands.forgotten), door=self.programming.path)
             await asyncio.sleep(MOMENT)
 
-    async def run(self):
+    async def run(self) -> None:
         """Drives until this program is ended. The registry then says that no station is driven."""
         runs = (self.bus.mirror.run(), self.bus.orders.run(), self.keep_line(), self.on_join(), self.feedback(),
                 self.tell_of_itself(), self.programming.run())
@@ -301,7 +301,7 @@ class Station:
                     await self.bus.orders.carry_out()
 
 
-def words_of_driver(about):
+def words_of_driver(about: str | None) -> Arguments:
     """Returns a parser of what every driver can be told."""
     words = arguments(about)
     words.add_argument("--bus", type=BUS, default=1, help="the bus that is put on the track (%(default)s)")

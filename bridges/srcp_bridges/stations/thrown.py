@@ -5,9 +5,9 @@ station was told is a hand's doing only if the station, asked again and again, s
 """
 import asyncio
 from functools import partial
-
+from typing import Literal
 from srcp_bridges.program import say
-from srcp_bridges.rows import CONFIRMED, THROWN, UNCONFIRMED
+from srcp_bridges.rows import CONFIRMED, THROWN, UNCONFIRMED, Port
 from srcp_bridges.stations.bus import Bus
 from srcp_bridges.stations.registry import POWER
 
@@ -15,7 +15,7 @@ STAYS = 0.3  # seconds after which a report is no late one
 ANSWERED = 2.0  # seconds after a STOP ALL in which displays wait for its answer
 PULSE = 250  # milliseconds
 TOLD = ("thrown",)  # as a part, for orders
-POWER_ROW = "POWER", 0, "does"
+POWER_ROW: tuple[Literal["POWER"], int, Literal["does"]] = "POWER", 0, "does"
 
 
 class Thrown:
@@ -58,7 +58,7 @@ class Thrown:
         later. It is put back afterwards: before, the turnout would still lie as that port, and be thrown back."""
         await self.bus.mirror.ask(f"SET {self.bus.number} GA {address} {port} 1 {PULSE}")
         for other in [key[3] for key, row in self.bus.mirror.rows.items() if key[:3] == (self.bus.number, "GA", address)
-                      and isinstance(key[3], int) and key[3] != port and row.value]:
+                      and isinstance(key[3], int) and key[3] != port and isinstance(row, Port) and row.value]:
             await self.bus.mirror.ask(f"SET {self.bus.number} GA {address} {other} 0 -1")
 
     def refused(self, address: int, port: int) -> None:

@@ -7,13 +7,19 @@ value is told alone.
 import asyncio
 from collections.abc import Callable
 
-from srcp_bridges.rows import EMERGENCY_STOP, FORWARD, Drive, position
+from srcp_bridges.rows import EMERGENCY_STOP, FORWARD, Drive, Locomotive, position
+from srcp_bridges.srcp import Mirror
+from srcp_bridges.stations.awaited import Part, Value
+from srcp_bridges.stations.holds import Holds
 from srcp_bridges.stations.registry import POWER
 
 URGENT, STOPPING, DRIVING, LATER, TURNOUTS = range(5)
 TOPS = 126,  # the numbers of steps in which a station is told speeds
 FUNCTIONS = 29  # of a locomotive, at most
-NOBODY = None, Drive(0, FORWARD, 0, 0, ())
+Known = tuple[Locomotive | None, Drive]
+Seen = tuple[int, int]  # the stops and losses that were counted as the station reported
+Report = tuple[int, int, int, Seen]  # of a locomotive: speed, direction, and a bit for each function
+NOBODY: Known = None, Drive(0, FORWARD, 0, 0, ())
 
 
 class Track:
@@ -22,38 +28,38 @@ class Track:
     `known` has the locomotives that have a slot at the station; `full` is called with one for which there is none left.
     """
 
-    def __init__(self, bus, mirror, holds, turnout_pace, full):
+    def __init__(self, bus: int, mirror: Mirror, holds: Holds, turnout_pace: float, full: Callable[[int], None]):
         self.bus = bus
         self.mirror = mirror
         self.holds = holds
         self.turnout_pace = turnout_pace
         self.full = full
-        self.told: dict = {}
-        self.waiting: list[dict] = [{} for _ in range(5)]
+        self.told: dict[Part, Value] = {}
+        self.waiting: list[dict[Part, Value]] = [{} for _ in range(5)]
         self.not_before = [0.0] * 5
         self.stops: set[int] = set()  # locomotives of whose emergency stop the station is still to be told
         self.known: set[int] = set()
-        self.others: dict[int, tuple] = {}  # what the station reports of locomotives that the registry has not
+        self.others: dict[int, Report] = {}  # what the station reports of locomotives that the registry has not
         self.making: set[int] = set()  # locomotives that this program makes, since a hand drives them
         self.drive_on: Callable = lambda address, *report: None  # takes again what was reported of one that was made
         self.steps: dict[int, int] = {}  # the numbers of steps in which the station reports locomotives
-        self.slots = None
+        self.slots: int | None = None
         self.changed = asyncio.Event()
         self.tops: tuple[int, ...] = TOPS
-        self.at_first: tuple | None = None  # of a station that keeps speeds: what one does of which it was told nothing
-        self.awaits: Callable[[tuple], bool] = lambda part: False  # whether a part is told nothing else meanwhile
+        self.at_first: Value | None = None  # of a station that keeps speeds: what one does of which it was told nothing
+        self.awaits: Callable[[Part], bool] = lambda part: False  # whether a part is told nothing else meanwhile
 
     # ---- what is wanted: how urgent a part is, and its value, or None if any will do
 
-    def wanted(self, part):
+    def wanted(self, part: Part) -> tuple[int, Value]:
         kind, *numbers = part
         return getattr(self, kind)(*numbers)
 
-    def power(self):
+    def power(self) -> tuple[int, int]:
         row = self.mirror.rows.get((self.bus, "POWER", 0, "does"))
         return (STOPPING, 1) if row and row.on and POWER not in self.holds.held else (URGENT, 0)
 
-    def cab(self, address):
+    def cab(self, address: int) -> tuple[int, Value]:
         """A locomotive's speed, -1 for an emergency stop, and direction. One that has not driven yet is not told."""
         made, drive = self.locomotive(address)
         told, way = self.told.get(("cab", address), made and self.at_first), self.mirror.way(self.bus, address)
@@ -61,41 +67,43 @@ class Track:
             return URGENT, told and (-1, way)
         if not drive.v or ("cab", address) in self.holds.held:
             return STOPPING, told and (0, way)
+        assert made
         top = self.top(made)
         return DRIVING, (min(top, -(-drive.v * top // (drive.v_max or made.steps))), way)  # Vmax 0: V is a step
 
-    def function(self, address, number):
+    def function(self, address: int, number: int) -> tuple[int, int | None]:
         """A station begins with all functions off."""
         functions = self.locomotive(address)[1].functions
         value = functions[number] if number < len(functions) else 0
         return LATER, value if value or ("function", address, number) in self.told else None
 
-    def turnout(self, address):
+    def turnout(self, address: int) -> tuple[int, int | None]:
         made = self.mirror.rows.get((self.bus, "GA", address, "is"))
         port = position(self.mirror.rows, self.bus, address) if made and made.protocol in "NP" else None
         return TURNOUTS, None if port is None else int(port > 0)
 
-    def forget(self, address):
+    def forget(self, address: int) -> tuple[int, int | None]:
         """A locomotive that is gone gives its slot back, after all else."""
         return LATER, 1 if address in self.known and not self.locomotive(address)[0] else None
 
-    def locomotive(self, address):
+    def locomotive(self, address: int) -> Known:
         """Returns what a locomotive is and does; NOBODY if it is gone or cannot be driven."""
-        made, drive = (self.mirror.rows.get((self.bus, "GL", address, part)) for part in ("is", "does"))
+        made = self.mirror.rows.get((self.bus, "GL", address, "is"))
+        drive = self.mirror.rows.get((self.bus, "GL", address, "does"))
         return (made, drive) if made and drive and made.protocol in "NP" else NOBODY
 
-    def top(self, made):
+    def top(self, made: Locomotive | None) -> int:
         """Returns the fastest step of a locomotive at the station."""
         return next((top for top in self.tops if made and made.steps <= top), self.tops[-1])
 
-    def top_of(self, address):
+    def top_of(self, address: int) -> int:
         """Returns the fastest step of a locomotive: as the registry has it, else as the station reports it."""
         made, _ = self.locomotive(address)
         return self.top(made) if made else self.steps.get(address, self.tops[-1])
 
     # ---- what differs
 
-    def mark(self, part):
+    def mark(self, part: Part) -> None:
         """Notes whether a part is to be told, and how urgently. One that waits already keeps its place."""
         urgency, value = self.wanted(part)
         differs = value is not None and value != self.told.get(part)
@@ -108,12 +116,12 @@ class Track:
             self.waiting[urgency][part] = value
             self.changed.set()
 
-    def mark_locomotive(self, address):
+    def mark_locomotive(self, address: int) -> None:
         functions = [("function", address, number) for number in range(FUNCTIONS)]
         for part in [("cab", address), *functions, ("forget", address)]:
             self.mark(part)
 
-    def take_in(self, address):
+    def take_in(self, address: int) -> None:
         """A locomotive is made that a hand may have driving already. One that this program makes drives on. If somebody
         else makes it, the station is told to do as its row says."""
         report, is_ours = self.others.pop(address, None), address in self.making
@@ -124,7 +132,7 @@ class Track:
             self.told["cab", address] = report[0], None
         self.mark_locomotive(address)
 
-    def mark_all(self):
+    def mark_all(self) -> None:
         ours = [key for key in self.mirror.rows if key[0] == self.bus]
         self.mark(POWER)
         for address in {key[2] for key in ours if key[1] == "GL"} | self.known:
@@ -132,7 +140,7 @@ class Track:
         for address in [key[2] for key in ours if key[1] == "GA" and key[3] == "is"]:
             self.mark(("turnout", address))
 
-    def begin_anew(self):
+    def begin_anew(self) -> None:
         """The station has forgotten all. How turnouts lie has not changed. One that keeps speeds may still have what is
         gone from the registry drive: that stands."""
         driven = [part for part in self.told if part[0] == "cab"] if self.at_first else []
@@ -145,7 +153,7 @@ class Track:
         for part in driven:
             self.mark(part)
 
-    def next(self):
+    def next(self) -> tuple[Part, Value] | None:
         """Returns the most urgent part that is to be told at this moment, and its value, or None."""
         now = asyncio.get_running_loop().time()
         for waiting, begin in zip(self.waiting, self.not_before):
@@ -161,29 +169,29 @@ class Track:
                 self.full(part[1])
         return None
 
-    def has_slot(self, part):
+    def has_slot(self, part: Part) -> bool:
         """Returns whether the station has a slot for a part, or needs none."""
         return (part[0] not in ("cab", "function") or part[1] in self.known or self.slots is None
                 or len(self.known) < self.slots)
 
-    def is_busy(self, address):
+    def is_busy(self, address: int) -> bool:
         """Returns whether a locomotive drives, has a function on, or is about to: it needs its slot."""
         functions = [("function", address, number) for number in range(FUNCTIONS)]
         about_to = any(part in waiting for waiting in self.waiting for part in [("cab", address), *functions])
         return about_to or self.speed(address) > 0 or any(self.told.get(part) for part in functions)
 
-    def speed(self, address):
+    def speed(self, address: int) -> int:
         """Returns the speed that the station was told last."""
         return (self.told.get(("cab", address)) or (0,))[0]
 
-    def driving(self):
+    def driving(self) -> list[int]:
         """Returns the locomotives that drive, or are about to: none if the power is off."""
         told = [part[1] for part in self.told if part[0] == "cab" and self.speed(part[1]) > 0]
         waiting = [part[1] for part in self.waiting[DRIVING]]
         others = [address for address, (speed, *_) in self.others.items() if speed > 0]
         return sorted(told + waiting + others) if self.told.get(POWER) else []
 
-    def tell(self, part, value):
+    def tell(self, part: Part, value: Value) -> None:
         """Notes that the station is told of a part."""
         kind, *numbers = part
         if kind == "forget":
@@ -200,13 +208,13 @@ class Track:
         elif kind == "turnout":
             self.pause(TURNOUTS, 1 / self.turnout_pace)
 
-    def pause(self, urgency, seconds):
+    def pause(self, urgency: int, seconds: float) -> None:
         """Has what is as urgent as that wait for a while."""
         loop = asyncio.get_running_loop()
         self.not_before[urgency] = loop.time() + seconds
         loop.call_later(seconds + 0.001, self.changed.set)
 
-    def forgets(self, part):
+    def forgets(self, part: Part) -> None:
         """The station may do something else than it was told of a part: it is told again."""
         self.told[part] = (-1, None) if part[0] == "cab" else None  # (-1, None): in whatever direction
         self.mark(part)
