@@ -22,9 +22,11 @@ from srcp_bridges.stations.track import FUNCTIONS
 MESSAGE = re.compile(
     r"<(?:(?P<banner>iDCC.*)|(?P<sensor>[Qq]) (?P<number>\d{1,5})|# (?P<slots>\d{1,4})"
     r"|p(?P<power>[01])(?: (?P<track>MAIN|JOIN|PROG|[A-H]))?|(?P<overload>\*.*(?:OVERLOAD|FAULT|ALERT).*)"
-    r"|l (?P<cab>\d{1,5}) (?P<slot>-?\d+) (?P<speed>\d{1,3}) (?P<functions>-?\d{1,10})|(?P<refused>X)"
+    r"|l (?P<cab>\d{1,5}) (?P<slot>-?\d{1,5}) (?P<speed>\d{1,3}) (?P<functions>-?\d{1,10})|(?P<refused>X)"
     r"|[rv] ?(?P<cv>\d{1,4}) (?P<value>-[123]|\d{1,3}))>",
     re.ASCII | re.DOTALL)
+CABS = range(1, 10240)  # addresses of locomotives
+BYTE = range(256)
 ASKS = 5  # looks at what is not confirmed from one question how a locomotive drives to the next
 
 
@@ -134,16 +136,19 @@ class DccEx(Confirmed):
             self.take_power(int(found["power"]), found["track"])
         elif found["overload"]:
             self.hands.overload()
+        elif int(found["cab"]) in CABS and int(found["speed"]) in BYTE:  # else the line has damaged it
+            self.take_cab(*(int(found[name]) for name in ("cab", "slot", "speed", "functions")))
+
+    def take_cab(self, cab: int, slot: int, byte: int, functions: int) -> None:
+        """Takes how a locomotive drives: the byte has its speed and direction. `functions` is below 0 if F31 is on."""
+        code = byte & 127  # 0 stands, 1 is an emergency stop, 2 is the first step
+        speed = code - 1 if code > 1 else -code
+        if slot >= 0:
+            self.slotted.add(cab)
+            self.heard_locomotive(cab, (speed, byte >> 7), functions)
         else:
-            code = int(found["speed"]) & 127  # 0 stands, 1 is an emergency stop, 2 is the first step
-            speed = code - 1 if code > 1 else -code
-            way, functions = int(found["speed"]) >> 7 & 1, int(found["functions"])  # below 0 if F31 is on
-            if int(found["slot"]) >= 0:
-                self.slotted.add(int(found["cab"]))
-                self.heard_locomotive(int(found["cab"]), (speed, way), functions)
-            else:
-                self.heard_of_no_slot(int(found["cab"]))
-            self.unsaid.discard(int(found["cab"]))  # without a slot the station has kept nothing of it
+            self.heard_of_no_slot(cab)
+        self.unsaid.discard(cab)  # without a slot the station has kept nothing of it
 
     def heard_of_no_slot(self, address: int) -> None:
         """The station keeps nothing of a locomotive. If it did, another throttle there has given the slot away: it
