@@ -71,13 +71,15 @@ class DccEx(Confirmed):
     def look(self):
         """Tells a STOP ALL again that has not stopped what a hand drives and the registry does not have. Asks of one
         locomotive after the other what the station may have kept, or reported in vain."""
-        if self.bus.stopping and any(speed > 0 for speed, *_ in self.track.others.values()):
+        others = [address for address, (speed, *_) in self.track.others.items() if speed > 0]
+        if self.bus.stopping and others:
             self.say_stop_all()
+            self.line.write(ask_locomotive(others[0]))  # a report that the line damaged may have made it up
         self.ticks += 1
-        if self.ticks % ASKS or not self.ahead.fits(urgent=False):
+        new, known = self.bus.addresses() - self.asked, sorted(self.track.known)
+        if not self.ahead.fits(urgent=False) or self.ticks % ASKS and not new:
             return
-        known = sorted(self.track.known)
-        if new := self.bus.addresses() - self.asked:
+        if new:
             address = min(new)
             self.asked.add(address)
             self.unsaid.add(address)
@@ -160,20 +162,24 @@ class DccEx(Confirmed):
             self.track.known.discard(address)
             self.hands.forgotten.add(address)
         self.slotted.discard(address)
+        self.track.others.pop(address, None)
 
     def heard_locomotive(self, address, drives, functions):
         is_first = address in self.unsaid or address not in self.asked and drives[0] < 0  # an echo of the first stop
         if is_first and self.track.locomotive(address)[0]:
-            self.take_kept(address, functions)
+            self.take_kept(address, drives, functions)
         self.asked.add(address)  # what it reports from now on is new
         self.unsaid.discard(address)
         super().heard_locomotive(address, drives, functions)
 
-    def take_kept(self, address: int, functions: int) -> None:
-        """Takes the functions that a station has kept, of before this driver: they are put as the registry has them."""
-        for part in [("function", address, number) for number in range(FUNCTIONS) if functions >> number & 1]:
+    def take_kept(self, address: int, drives: tuple[int, int], functions: int) -> None:
+        """Takes what a station has kept, of before this driver, or as the line lost its stops: a locomotive that drives
+        is told to stand, and functions are put as the registry has them."""
+        kept = {("cab", address): drives} if drives[0] > 0 else {}
+        kept |= {("function", address, number): 1 for number in range(FUNCTIONS) if functions >> number & 1}
+        for part, value in kept.items():
             if part not in self.track.told:
-                self.track.told[part] = self.hands.reports.reported[part] = 1
+                self.track.told[part] = self.hands.reports.reported[part] = value
                 self.track.mark(part)
 
     def take_power(self, on: int, track: str | None) -> None:

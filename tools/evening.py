@@ -15,10 +15,12 @@ import sys
 import threading
 import time
 from collections import Counter
+from functools import partial
 from pathlib import Path
 
 from bridge_tests import common, test_mqtt, test_web, test_withrottle
 from bridge_tests.common import stamped_lines, until
+from delays import Delays
 from rails import ALL, LOSSES, POWER, REST, SPEED, Rails
 from wifi import WiFi
 
@@ -26,6 +28,7 @@ LAYOUT = "port = {port}\n" + "".join(
     f'[[bus]]\nnumber = {bus}\ngroups = ["POWER", "GL", "GA", "FB"]\ngl_max = 9999\nga_max = 99\nfb_ports = 64\n'
     for bus in (1, 2))
 PACE = 0.03  # seconds between two changes of one
+JOINED = 600  # seconds that programs may take to begin, on a machine that is busy
 SENT = 1.0  # seconds until what was sent is carried out
 HANG = 12.0  # seconds for which the server hangs: trains stand within 8
 SILENT = 7.0  # seconds for which a station says nothing: its driver waits for 4
@@ -82,7 +85,8 @@ class Evening:
         self.programs[name] = common.program(name + ".py", *self.words[name], "--port", self.server.port)
 
     def joined(self):
-        until(lambda: all("server: joined" in started.told() for started in self.programs.values()), "all have joined")
+        until(lambda: all("server: joined" in started.told() for started in self.programs.values()), "all have joined",
+              JOINED)
 
     # ---- changes
 
@@ -315,6 +319,11 @@ class Evening:
         time.sleep(REST)
         self.playing.set()
 
+    def threads(self, rails):
+        """Those by which a command comes to a station."""
+        programs = self.server.process, self.programs["web"], self.programs[rails.program]
+        return [*(started.pid for started in programs), rails.station.thread.native_id]
+
     def look(self):
         for rails in self.rails.values():
             rails.look()
@@ -322,6 +331,10 @@ class Evening:
     def run(self, seconds):
         acts = (self.throttle, self.throttle, self.pages, self.phone, self.display, self.hand, self.stopper)
         clients = [threading.Thread(target=self.plays, args=(act,), daemon=True) for act in acts]
+        for rails in self.rails.values():
+            delays = Delays(partial(self.threads, rails))
+            rails.watch.delay = delays.between
+            clients.append(threading.Thread(target=delays.run, args=(self.ended,), daemon=True))
         self.playing.set()
         for client in clients:
             client.start()
