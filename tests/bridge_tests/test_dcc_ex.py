@@ -7,6 +7,7 @@ import signal
 import socket
 import subprocess
 import sys
+import termios
 import threading
 import time
 import unittest
@@ -179,6 +180,15 @@ class DccEx(Drives, DccExCase):
         os.chmod(os.path.realpath(self.link), 0o666)
         other = subprocess.run([sys.executable, "-c", opens], capture_output=True, text=True)
         self.assertIn("Device or resource busy", other.stderr)
+
+    def test_a_line_that_is_closed_is_not_hung_up(self):
+        """An Arduino begins anew as that happens."""
+        self.driver.end()
+        mode = termios.tcgetattr(self.station.line.slave)
+        mode[2] |= termios.HUPCL
+        termios.tcsetattr(self.station.line.slave, termios.TCSANOW, mode)
+        self.start()
+        self.assertFalse(termios.tcgetattr(self.station.line.slave)[2] & termios.HUPCL)
 
     def test_wrong_words_end_it_with_status_2_and_one_line(self):
         names = os.path.join(new_folder(), "names")
