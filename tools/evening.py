@@ -106,12 +106,14 @@ class Evening:
         """Sends a command, and notes it at the rails that it is for."""
         if found := SPEED.match(command):
             bus, loco, mode, v = map(int, found.groups())
-            noted = self.rails[bus].commanded(loco, v > 0 and mode < 2)
+            drives = v > 0 and mode < 2
+            with self.rails[bus].commanded(loco, drives) as noted:
+                if not send(command).startswith("200") and not drives:
+                    self.rails[bus].watch.refused(loco, noted)
         elif found := POWER.match(command):
-            noted = self.rails[int(found[1])].commanded(ALL, found[2] == "ON")
+            with self.rails[int(found[1])].commanded(ALL, found[2] == "ON"):
+                send(command)
         else:
-            noted = contextlib.nullcontext()
-        with noted:
             send(command)
 
     def throttle(self, draw):
@@ -163,8 +165,9 @@ class Evening:
             time.sleep(PACE / 3)
 
     def hand(self, draw):
-        """Throttles at the stations, and what happens there. They drive what the registry has: a Z21 tells once of what
-        it has not, and a driver that was away then cannot know of that. Who has one stand that stands tells nobody."""
+        """Throttles at the stations, and what happens there. They drive what the registry has, and at a Z21 nothing
+        while its driver is away: a Z21 tells once, and the driver cannot know of what the registry has no more. Who has
+        one stand that stands tells nobody."""
         with contextlib.closing(common.Session(self.server.port)) as session:
             while self.may_go_on():
                 rails, loco = self.rails[draw.choice((1, 2))], draw.choice(LOCOMOTIVES)
@@ -176,7 +179,7 @@ class Evening:
                     self.count["stop buttons of hands"] += 1
                 elif chance > 0.2:
                     rails.station.sensor(draw.randint(1, 16), draw.randint(0, 1))
-                elif " INFO " in session.ask(f"GET {rails.bus} GL {loco}"):
+                elif (not rails.is_z21 or not rails.away) and " INFO " in session.ask(f"GET {rails.bus} GL {loco}"):
                     is_told = v > 0 or rails.station.cabs.get(loco, (0, 1))[0] > 0
                     with rails.commanded(loco, v > 0, has_reply=False) if is_told else contextlib.nullcontext():
                         rails.station.hand(loco, v, draw.randint(0, 1))

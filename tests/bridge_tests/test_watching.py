@@ -96,16 +96,20 @@ class Watching(unittest.TestCase):
     def test_what_comes_late_since_the_machine_was_busy(self) -> None:
         """A program waited for a processor for a second. What is later is a breach, and so is a start of before
         a STOP ALL that was confirmed."""
-        for late, kinds in ((0.9, []), (1.1, ["start after loss", f"drive on {AFTER_STOP_ALL}"])):
+        breaches = ["start after loss", "start after to stand", f"drive on {AFTER_STOP_ALL}"]
+        for late, kinds in ((0.9, []), (1.1, breaches)):
             self.setUp()
             self.watch.delay = lambda begin, end: 1.0
             self.drives(4)
             self.is_lost(5, 8)
-            self.moves += [(5 + late, 3, 60), (7, 3, 0), (21, 4, 60), (30.15 + late, 4, 0)]
+            self.moves += [(5 + late, 3, 60), (7, 3, 0), (10.6 + late, 5, 60), (11.9, 5, 0), (21, 4, 60),
+                           (30.15 + late, 4, 0)]
+            self.drives(10, cab=5)
+            self.at(10.05, lambda: self.watch.done(self.watch.stands(5)))
             self.drives(20, cab=4)
             self.stops_all(30)
             self.says(*kinds)
-            self.assertEqual(self.watch.count["late by the machine"], 2 - len(kinds))
+            self.assertEqual(self.watch.count["late by the machine"], 3 - len(kinds))
         self.setUp()
         self.watch.delay = lambda begin, end: 100.0
         self.drives(1)
@@ -191,6 +195,13 @@ class Watching(unittest.TestCase):
         self.moves += [(2.6, 3, 60), (2.7, 3, 0)]
         self.says("start after to stand")
         self.assertIn("stands at 2.700", self.told[0])
+
+    def test_a_start_after_a_command_to_stand_that_was_refused(self) -> None:
+        self.drives(1)
+        self.at(1.5, lambda: self.watch.stands(3))
+        self.watch.refused(3, self.watch.stood[3][-1])
+        self.moves += [(3, 3, 60)]
+        self.says()
 
     def test_a_start_after_a_command_to_stand_that_a_driver_did_not_hear(self) -> None:
         """It slept, and carries out one command after the other as it wakes."""

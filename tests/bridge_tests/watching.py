@@ -94,6 +94,10 @@ class Watch:
         command.done = self.clock() + (0 if has_reply else UNREPLIED)
         command.surely = command.done if has_reply else self.clock() + QUEUED
 
+    def refused(self, cab: int, command: Command) -> None:
+        """A command to stand was refused: its locomotive may drive on."""
+        self.stood[cab].remove(command)
+
     def loses(self, what: str) -> Loss:
         """Something is about to be lost: all that was commanded before is over."""
         self.losses.append(loss := Loss(what, self.clock()))
@@ -178,9 +182,10 @@ class Watch:
         ends = {"to stand": last(stood), "STOP ALL": last(stops), "loss": last(losses)}
         if not self.is_driven(cab, max(ends.values()), moment) and not self.is_told_again(cab, ends, moment):
             why = max(ends, key=lambda name: ends[name])
-            began = last([loss.begin for loss in self.losses if loss.begin <= moment])
+            ended = {"loss": last([loss.begin for loss in self.losses if loss.begin <= moment]),
+                     "to stand": ends["to stand"] + STOOD}.get(why, -inf)
             since = max((command.sent for command in self.sent(cab, moment)), default=inf)
-            if why == "loss" and self.is_late_by_machine(cab, max(since, began - QUEUED), moment, moment - began):
+            if self.is_late_by_machine(cab, max(since, ended - QUEUED), moment, moment - ended):
                 return
             self.breach(f"start after {why}", cab, f"starts at {self.at(moment)} at speed {speed}, "
                         f"stands at {self.at(self.stands_from(cab, moment))}", moment)
