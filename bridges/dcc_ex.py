@@ -23,9 +23,11 @@ from srcp_bridges.stations.track import FUNCTIONS
 MESSAGE = re.compile(
     r"<(?:(?P<banner>iDCC.*)|(?P<sensor>[Qq]) (?P<number>\d{1,5})|# (?P<slots>\d{1,4})"
     r"|p(?P<power>[01])(?: (?P<track>MAIN|JOIN|PROG|[A-H]))?|(?P<overload>\*.*(?:OVERLOAD|FAULT|ALERT).*)"
-    r"|l (?P<cab>\d{1,5}) (?P<slot>-?\d+) (?P<speed>\d{1,3}) (?P<functions>-?\d{1,10})|(?P<refused>X)"
+    r"|l (?P<cab>\d{1,5}) (?P<slot>-?\d{1,5}) (?P<speed>\d{1,3}) (?P<functions>-?\d{1,10})|(?P<refused>X)"
     r"|[rv] ?(?P<cv>\d{1,4}) (?P<value>-[123]|\d{1,3}))>",
     re.ASCII | re.DOTALL)
+CABS = range(1, 10240)  # addresses of locomotives
+BYTE = range(256)
 ASKS = 5  # looks at what is not confirmed from one question how a locomotive drives to the next
 
 
@@ -70,13 +72,15 @@ class DccEx(Confirmed):
     def look(self) -> None:
         """Tells a STOP ALL again that has not stopped what a hand drives and the registry does not have. Asks of one
         locomotive after the other what the station may have kept, or reported in vain."""
-        if self.bus.stopping and any(speed > 0 for speed, *_ in self.track.others.values()):
+        others = [address for address, (speed, *_) in self.track.others.items() if speed > 0]
+        if self.bus.stopping and others:
             self.say_stop_all()
+            self.line.write(ask_locomotive(others[0]))  # a report that the line damaged may have made it up
         self.ticks += 1
-        if self.ticks % ASKS or not self.ahead.fits(urgent=False):
+        new, known = self.bus.addresses() - self.asked, sorted(self.track.known)
+        if not self.ahead.fits(urgent=False) or self.ticks % ASKS and not new:
             return
-        known = sorted(self.track.known)
-        if new := self.bus.addresses() - self.asked:
+        if new:
             address = min(new)
             self.asked.add(address)
             self.unsaid.add(address)
@@ -135,16 +139,19 @@ class DccEx(Confirmed):
             self.take_power(int(found["power"]), found["track"])
         elif found["overload"]:
             self.hands.overload()
+        elif int(found["cab"]) in CABS and int(found["speed"]) in BYTE:  # else the line has damaged it
+            self.take_cab(*(int(found[name]) for name in ("cab", "slot", "speed", "functions")))
+
+    def take_cab(self, cab: int, slot: int, byte: int, functions: int) -> None:
+        """Takes how a locomotive drives: the byte has its speed and direction. `functions` is below 0 if F31 is on."""
+        code = byte & 127  # 0 stands, 1 is an emergency stop, 2 is the first step
+        speed = code - 1 if code > 1 else -code
+        if slot >= 0:
+            self.slotted.add(cab)
+            self.heard_locomotive(cab, (speed, byte >> 7), functions)
         else:
-            code = int(found["speed"]) & 127  # 0 stands, 1 is an emergency stop, 2 is the first step
-            speed = code - 1 if code > 1 else -code
-            way, functions = int(found["speed"]) >> 7 & 1, int(found["functions"])  # below 0 if F31 is on
-            if int(found["slot"]) >= 0:
-                self.slotted.add(int(found["cab"]))
-                self.heard_locomotive(int(found["cab"]), (speed, way), functions)
-            else:
-                self.heard_of_no_slot(int(found["cab"]))
-            self.unsaid.discard(int(found["cab"]))  # without a slot the station has kept nothing of it
+            self.heard_of_no_slot(cab)
+        self.unsaid.discard(cab)  # without a slot the station has kept nothing of it
 
     def heard_of_no_slot(self, address: int) -> None:
         """The station keeps nothing of a locomotive. If it did, another throttle there has given the slot away: it
@@ -156,20 +163,24 @@ class DccEx(Confirmed):
             self.track.known.discard(address)
             self.hands.forgotten.add(address)
         self.slotted.discard(address)
+        self.track.others.pop(address, None)
 
     def heard_locomotive(self, address: int, drives: tuple[int, int], functions: int) -> None:
         is_first = address in self.unsaid or address not in self.asked and drives[0] < 0  # an echo of the first stop
         if is_first and self.track.locomotive(address)[0]:
-            self.take_kept(address, functions)
+            self.take_kept(address, drives, functions)
         self.asked.add(address)  # what it reports from now on is new
         self.unsaid.discard(address)
         super().heard_locomotive(address, drives, functions)
 
-    def take_kept(self, address: int, functions: int) -> None:
-        """Takes the functions that a station has kept, of before this driver: they are put as the registry has them."""
-        for part in [("function", address, number) for number in range(FUNCTIONS) if functions >> number & 1]:
+    def take_kept(self, address: int, drives: tuple[int, int], functions: int) -> None:
+        """Takes what a station has kept, of before this driver, or as the line lost its stops: a locomotive that drives
+        is told to stand, and functions are put as the registry has them."""
+        kept = {("cab", address): drives} if drives[0] > 0 else {}
+        kept |= {("function", address, number): 1 for number in range(FUNCTIONS) if functions >> number & 1}
+        for part, value in kept.items():
             if part not in self.track.told:
-                self.track.told[part] = self.hands.reports.reported[part] = 1
+                self.track.told[part] = self.hands.reports.reported[part] = value
                 self.track.mark(part)
 
     def take_power(self, on: int, track: str | None) -> None:

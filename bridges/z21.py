@@ -11,6 +11,8 @@ it on, and a locomotive stands until somebody commands it anew. Decoders of the 
 """
 import argparse
 import asyncio
+from collections import defaultdict, deque
+from typing import Any
 
 from srcp_bridges.program import run, say
 from srcp_bridges.rows import STOP_ALL
@@ -29,6 +31,7 @@ from srcp_bridges.stations.thrown import Thrown
 
 PORT = 21105
 PULSE = 0.1  # seconds for which a turnout's output is on
+STRAY = 1.0  # seconds for which a datagram may be on its way
 
 
 class Z21(Confirmed):
@@ -54,6 +57,7 @@ class Z21(Confirmed):
         self.pulses: dict[int, int] = {}  # turnouts of which an output is to go off, and that output
         self.on: set[int] = set()  # turnouts of which an output is on: what is reported of one says that it is off
         self.looks = 0
+        self.drives: defaultdict[tuple, deque] = defaultdict(deque)  # what it was told of each cab that drives, and when
 
     async def connect(self) -> Datagrams:
         return await Datagrams.open(self.where)
@@ -82,6 +86,8 @@ class Z21(Confirmed):
         super().telling(part, value)
         if part[0] == "turnout":
             self.on.add(part[1])
+        elif part[0] == "cab" and value[0] > 0:
+            self.drives[part].append((asyncio.get_running_loop().time(), value))
 
     def say_stop_all(self) -> None:
         """The station stops all until its power is switched on, also if that is on already."""
@@ -162,7 +168,19 @@ class Z21(Confirmed):
         top, speed = self.track.top_of(address), datasets.speed_of(code & 127, steps)
         if steps != top and speed > 0:  # a hand throttle drives it in other steps
             speed = -(-speed * top // steps)
-        self.heard_locomotive(address, (speed, code >> 7), functions)
+        part, drives = ("cab", address), (speed, code >> 7)
+        if self.is_stray(part, drives):
+            return self.track.forgets(part)
+        self.heard_locomotive(address, drives, functions)
+
+    def is_stray(self, part: tuple, drives: tuple[int, int]) -> bool:
+        """Returns whether a locomotive that was told to stand drives as it was told before that: the stop has overtaken
+        that on its way, or the report comes late. A hand does that too; then it has to do so once more."""
+        recent, since = self.drives[part], asyncio.get_running_loop().time() - STRAY
+        while recent and recent[0][0] < since:
+            recent.popleft()
+        told = self.track.told.get(part)
+        return told is not None and told[0] <= 0 and drives in [value for _, value in recent]
 
     def turnout(self, address: int, port: int) -> None:
         """Its output goes off after a while. What the station says of the turnout then confirms that. What it says

@@ -15,10 +15,12 @@ import sys
 import threading
 import time
 from collections import Counter
+from functools import partial
 from pathlib import Path
 
 from bridge_tests import common, test_mqtt, test_web, test_withrottle
 from bridge_tests.common import stamped_lines, until
+from delays import Delays
 from rails import ALL, LOSSES, POWER, REST, SPEED, Rails
 from wifi import WiFi
 
@@ -26,6 +28,7 @@ LAYOUT = "port = {port}\n" + "".join(
     f'[[bus]]\nnumber = {bus}\ngroups = ["POWER", "GL", "GA", "FB"]\ngl_max = 9999\nga_max = 99\nfb_ports = 64\n'
     for bus in (1, 2))
 PACE = 0.03  # seconds between two changes of one
+JOINED = 600  # seconds that programs may take to begin, on a machine that is busy
 SENT = 1.0  # seconds until what was sent is carried out
 HANG = 12.0  # seconds for which the server hangs: trains stand within 8
 SILENT = 7.0  # seconds for which a station says nothing: its driver waits for 4
@@ -82,7 +85,8 @@ class Evening:
         self.programs[name] = common.program(name + ".py", *self.words[name], "--port", self.server.port)
 
     def joined(self):
-        until(lambda: all("server: joined" in started.told() for started in self.programs.values()), "all have joined")
+        until(lambda: all("server: joined" in started.told() for started in self.programs.values()), "all have joined",
+              JOINED)
 
     # ---- changes
 
@@ -102,12 +106,14 @@ class Evening:
         """Sends a command, and notes it at the rails that it is for."""
         if found := SPEED.match(command):
             bus, loco, mode, v = map(int, found.groups())
-            noted = self.rails[bus].commanded(loco, v > 0 and mode < 2)
+            drives = v > 0 and mode < 2
+            with self.rails[bus].commanded(loco, drives) as noted:
+                if not send(command).startswith("200") and not drives:
+                    self.rails[bus].watch.refused(loco, noted)
         elif found := POWER.match(command):
-            noted = self.rails[int(found[1])].commanded(ALL, found[2] == "ON")
+            with self.rails[int(found[1])].commanded(ALL, found[2] == "ON"):
+                send(command)
         else:
-            noted = contextlib.nullcontext()
-        with noted:
             send(command)
 
     def throttle(self, draw):
@@ -159,8 +165,9 @@ class Evening:
             time.sleep(PACE / 3)
 
     def hand(self, draw):
-        """Throttles at the stations, and what happens there. They drive what the registry has: a Z21 tells once of what
-        it has not, and a driver that was away then cannot know of that. Who has one stand that stands tells nobody."""
+        """Throttles at the stations, and what happens there. They drive what the registry has, and at a Z21 nothing
+        while its driver is away: a Z21 tells once, and the driver cannot know of what the registry has no more. Who has
+        one stand that stands tells nobody."""
         with contextlib.closing(common.Session(self.server.port)) as session:
             while self.may_go_on():
                 rails, loco = self.rails[draw.choice((1, 2))], draw.choice(LOCOMOTIVES)
@@ -172,7 +179,7 @@ class Evening:
                     self.count["stop buttons of hands"] += 1
                 elif chance > 0.2:
                     rails.station.sensor(draw.randint(1, 16), draw.randint(0, 1))
-                elif " INFO " in session.ask(f"GET {rails.bus} GL {loco}"):
+                elif (not rails.is_z21 or not rails.away) and " INFO " in session.ask(f"GET {rails.bus} GL {loco}"):
                     is_told = v > 0 or rails.station.cabs.get(loco, (0, 1))[0] > 0
                     with rails.commanded(loco, v > 0, has_reply=False) if is_told else contextlib.nullcontext():
                         rails.station.hand(loco, v, draw.randint(0, 1))
@@ -315,6 +322,11 @@ class Evening:
         time.sleep(REST)
         self.playing.set()
 
+    def threads(self, rails):
+        """Those by which a command comes to a station."""
+        programs = self.server.process, self.programs["web"], self.programs[rails.program]
+        return [*(started.pid for started in programs), rails.station.thread.native_id]
+
     def look(self):
         for rails in self.rails.values():
             rails.look()
@@ -322,6 +334,10 @@ class Evening:
     def run(self, seconds):
         acts = (self.throttle, self.throttle, self.pages, self.phone, self.display, self.hand, self.stopper)
         clients = [threading.Thread(target=self.plays, args=(act,), daemon=True) for act in acts]
+        for rails in self.rails.values():
+            delays = Delays(partial(self.threads, rails))
+            rails.watch.delay = delays.between
+            clients.append(threading.Thread(target=delays.run, args=(self.ended,), daemon=True))
         self.playing.set()
         for client in clients:
             client.start()

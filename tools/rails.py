@@ -57,11 +57,11 @@ class Rails:
                 self.watch.found(loss, REST)
 
     @contextmanager
-    def commanded(self, cab: int, drives: bool, has_reply=True) -> Iterator[None]:
+    def commanded(self, cab: int, drives: bool, has_reply=True) -> Iterator[Command]:
         """Notes a command to a locomotive while it is carried out."""
         command = self.watch.drives(cab) if drives else self.watch.stands(cab)
         try:
-            yield
+            yield command
         finally:
             self.watch.done(command, has_reply)
 

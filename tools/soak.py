@@ -20,6 +20,7 @@ for them, try to move their turnouts, and lock some. The box is killed and ended
 lost, and the server hangs and is started again. A panel checks that no turnout of a set route moves or is unlocked,
 that no two that conflict are set, and that signals show go only over turnouts that are locked and thrown.
 """
+import contextlib
 import re
 import subprocess
 import sys
@@ -40,6 +41,7 @@ from serving import Client, served
 EVENTS_A_SCRIPT = 250_000
 PANELS = 31
 SETS = 1_000_000
+RESTED = 120  # seconds until all say the same
 LAST = b" 100 INFO 1 POWER ON last\n"
 
 
@@ -108,9 +110,8 @@ def bridges(program: str, seconds: int = 600, seed: int = 40) -> int:
     evening = Evening(program, seed)
     try:
         evening.run(seconds)
-        until(rested, "all say the same", 30)
-        differences = []
-    except AssertionError:
+        with contextlib.suppress(AssertionError):
+            until(rested, "all say the same", RESTED)
         differences = list(evening.differences())
     finally:
         evening.ends()

@@ -11,6 +11,7 @@ from srcp_bridges.program import PORT, Wrong
 Serve = Callable[[asyncio.StreamReader, asyncio.StreamWriter], Awaitable[None]]
 LIMIT = 65536  # bytes of a line, as asyncio has it
 
+
 class Full(Exception):
     """There is no place for one more connection."""
 

@@ -156,6 +156,7 @@ class Mirror:
         self.ways: dict[tuple[int, int], int] = {}
         self.recent: defaultdict[tuple[int, int], deque[Drive]] = defaultdict(lambda: deque(maxlen=RECENT))
         self.stops = Stops()
+        self.stopped: defaultdict[int, float] = defaultdict(float)  # the stamp of the last STOP ALL, by bus
         self.drivers: set[int] = set()
         self.stale: dict[Key, None] = {}
         self.session: Session | None = None
@@ -182,6 +183,7 @@ class Mirror:
             pass  # that server is gone
         self.anew, session = True, await self.begin()
         self.drivers.clear()
+        self.stopped.clear()
         for device in reversed(devices(self.rows)):  # so sessions go last, as at the server
             self.drop(device)
         self.session = session
@@ -258,10 +260,11 @@ class Mirror:
         return self.way(bus, address) if row.mode == EMERGENCY_STOP else row.mode
 
     def has_stood(self, bus: int, address: int, since: Drive) -> bool:
-        """Returns whether the panel has told that a locomotive stood after it had that row, which the server told."""
+        """Returns whether the panel has told that a locomotive stood, or that all were to stand, after it had that row,
+        which the server told."""
         told = list(self.recent[bus, address])
         later = told[told.index(since) + 1:] if since in told else [row for row in told if row.stamp > since.stamp]
-        return any(not row.v for row in later)
+        return any(not row.v for row in later) or since.stamp <= self.stopped[bus]
 
     @overload
     async def get(self, key: PowerKey) -> Power | None: ...
@@ -329,6 +332,7 @@ class Mirror:
         """Notes that all were stopped, or that the bus has a driver."""
         if row.text == STOP_ALL:
             self.stops.stopped_all(bus)
+            self.stopped[bus] = row.stamp
         elif is_of_driver(row.text):
             self.drivers.add(bus)
 

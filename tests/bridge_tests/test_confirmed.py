@@ -3,7 +3,7 @@ import signal
 import time
 import unittest
 
-from .common import Session, free_port, rows, until
+from .common import LAYOUT, Session, free_port, rows, until
 from .stations import QUIET, StationCase
 from .test_dcc_ex import DccExCase
 from .test_z21 import Z21Case
@@ -30,6 +30,8 @@ class Telling(StationCase):
 
 
 class DccExTelling(Telling, DccExCase):
+    layout = LAYOUT.replace("10239", "9999")
+
     def goes_deaf(self, is_deaf):
         self.station.trouble.loses = 1 if is_deaf else 0
 
@@ -114,6 +116,34 @@ class DccExTelling(Telling, DccExCase):
         self.station.hand(3, speed=45)
         self.station.report = report
         self.has("100 INFO 1 GL 3 1 45 126")
+
+    def test_what_a_station_kept_stands_though_the_line_lost_its_stops(self):
+        """Its cable was off, and it drives on. No hand drives it: as somebody switches the power on, it stands."""
+        self.station.unplug()
+        self.has("100 INFO 1 POWER OFF no station", "100 INFO 1 GL 3 1 0 28")
+        take = self.station.take
+        self.station.take = lambda command: None if command == b"<!" else take(command)
+        self.station.plug()
+        self.track(lambda s: s.cabs[3] == (0, 1), "it is told to stand by itself")
+        self.station.take = take
+        self.rests("")
+        self.throttle.order("SET 1 POWER ON")
+        self.track(lambda s: s.power == 1, "power is on")
+        time.sleep(3 * QUIET)
+        self.assertEqual(self.station.cabs[3], (0, 1))
+        self.has("100 INFO 1 GL 3 1 0 28")
+
+    def test_a_damaged_report_of_what_is_not_there(self):
+        """It tells of a locomotive beyond those that the server takes: a STOP ALL is confirmed, and told no more."""
+        self.station.say("<l 10000 0 200 0>\r\n")
+        until(lambda: "locomotive 10000, which a hand throttle drives" in self.driver.told(), "it is heard")
+        self.throttle.order("SET 1 POWER ON stop all")
+        self.has("100 INFO 1 POWER ON all stood")
+        begun = len(self.station.log)
+        self.throttle.order("SET 1 GL 3 1 14 28")
+        self.track(lambda s: s.cabs[3] == (63, 1), "it drives")
+        time.sleep(QUIET)
+        self.assertEqual((self.commands("!", begun), self.station.cabs[3]), ([], (63, 1)))
 
     def test_the_last_functions_do_not_hide_a_speed(self):
         """With F31 on, the station prints a number below 0."""

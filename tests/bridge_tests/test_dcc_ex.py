@@ -1,10 +1,13 @@
 """dcc_ex.py, with a simulated station on a pseudo-terminal that is strict about its grammar."""
+import contextlib
 import os
 import re
+import select
 import signal
 import socket
 import subprocess
 import sys
+import termios
 import threading
 import time
 import unittest
@@ -123,27 +126,38 @@ class DccEx(Drives, DccExCase):
         self.assertEqual(self.driver.end(), 0)
         self.track(lambda s: s.cabs[3][0] <= 0 and s.power == 0, "SIGTERM: all stand")
 
+    def babbles(self, data):
+        """Sends so much as fast as the line takes it, for as long as somebody may read it."""
+        while data and self.driver.process.poll() is None:
+            if select.select([], [self.station.master], [], 1)[1]:
+                with contextlib.suppress(BlockingIOError):
+                    data = data[os.write(self.station.master, data):]
+
     def test_a_station_that_babbles(self):
-        """Rubbish, messages without an end, sensors that no bus has, as fast as the line takes them."""
+        """Rubbish, messages without an end, sensors that no bus has, locomotives and speeds that there are not."""
         self.restarts("--silence", 10 * WAIT)
+        os.set_blocking(self.station.master, False)
         rubbish = os.urandom(3000).replace(b"<iDCC", b"").replace(b"<l", b"").replace(b"<p", b"")
         rubbish += b"<Q 99999999999999><Q 0><q 4096><X><Q -1><H 1 2>><l 3><l 3 0 999 1><l 99999 0 9 9><p2><# >>"
-        for _ in range(30):
-            os.write(self.station.master, rubbish + b"<" * 3000)
-        os.write(self.station.master, b">")
+        rubbish += b"<l 3 " + b"9" * 5000 + b" 9 9>"
+        self.babbles(30 * (rubbish + b"<" * 3000) + b">")
 
         def is_told():
-            os.write(self.station.master, b"<Q 7>")  # again: a full line drops what it has no room for
+            self.babbles(b"<Q 7>")  # again: a full line drops what the station has to say
             time.sleep(0.2)
             return any(row.startswith("100 INFO 1 FB 7 1") for row in rows(self.server.port))
 
         until(is_told, "a sensor behind the rubbish")
+        self.has("100 INFO 1 GL 3 1 14 28 1 0 1")  # no hand has driven it
         self.throttle.order("SET 1 GL 3 1 28 28")
         self.track(lambda s: s.cabs[3] == (126, 1), "it goes on")
-        self.station.stalled, sent = True, 0  # so that no answer of it ends the message
-        while sent < 70000:  # the line may take fewer bytes than it is given
-            sent += os.write(self.station.master, b"x" * 700)
-        until(lambda: "a message without an end" in self.driver.told(), "its line is opened anew")
+        self.station.stalled = True
+
+        def is_too_long():
+            self.babbles(b"x" * 700)  # again: an answer that was on its way may have ended the message
+            return "a message without an end" in self.driver.told()
+
+        until(is_too_long, "its line is opened anew")
         self.station.stalled = False
         self.rests("")
         self.drives()
@@ -166,6 +180,15 @@ class DccEx(Drives, DccExCase):
         os.chmod(os.path.realpath(self.link), 0o666)
         other = subprocess.run([sys.executable, "-c", opens], capture_output=True, text=True)
         self.assertIn("Device or resource busy", other.stderr)
+
+    def test_a_line_that_is_closed_is_not_hung_up(self):
+        """An Arduino begins anew as that happens."""
+        self.driver.end()
+        mode = termios.tcgetattr(self.station.line.slave)
+        mode[2] |= termios.HUPCL
+        termios.tcsetattr(self.station.line.slave, termios.TCSANOW, mode)
+        self.start()
+        self.assertFalse(termios.tcgetattr(self.station.line.slave)[2] & termios.HUPCL)
 
     def test_wrong_words_end_it_with_status_2_and_one_line(self):
         names = os.path.join(new_folder(), "names")

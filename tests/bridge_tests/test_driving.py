@@ -10,11 +10,11 @@ from .common import WAIT, Case
 class Driving(Case):
     program = "driving"
 
-    def after(self, act: Callable[..., Awaitable[object]], before: str = "", behind: str = "") -> list[str]:
-        """The row of locomotive 3 once that was done by a mirror. Another throttle commands something just before
-        the first SET of it is sent, and something just behind its reply."""
+    def after(self, act: Callable[..., Awaitable[object]], before="", behind="", first="") -> list[str]:
+        """The row of locomotive 3 once that was done by a mirror. Another throttle commands something `first`, something
+        just before the first SET of it is sent, and something just behind its reply."""
         from srcp_bridges import srcp
-        self.throttle.order("INIT 1 GL 3 N 1 126 2", "SET 1 GL 3 1 60 126 0 0")
+        self.throttle.order("INIT 1 GL 3 N 1 126 2", "SET 1 GL 3 1 60 126 0 0", *filter(None, [first]))
         asks, others = srcp.Session.ask, [[before], [behind]]
 
         async def ask(session: srcp.Session, command: str) -> object:
@@ -40,7 +40,8 @@ class Driving(Case):
         return self.throttle.ask("GET 1 GL 3").split()[5:]
 
     def test_a_speed_of_0_of_the_same_moment_stays(self) -> None:
-        """A function, and a direction by a phone and by a topic, leave a train at rest that another put to rest."""
+        """A function, and a direction by a phone and by a topic, leave a train at rest that another put to rest, or a
+        STOP ALL that its row does not show yet."""
         from srcp_bridges.driving import Driver, switch
         from srcp_bridges.orders import Orders
 
@@ -67,7 +68,8 @@ class Driving(Case):
 
         for act, mode, functions in ((by_function, "1", ["0", "1"]), (by_phone, "0", ["0", "0"]),
                                      (by_topic, "0", ["0", "0"])):
-            for stop in ("1 0", "2 0"):
-                self.assertEqual(self.after(act, f"SET 1 GL 3 {stop} 126"), [mode, "0", "126", *functions], act)
+            for stop in ("SET 1 GL 3 1 0 126", "SET 1 GL 3 2 0 126", "SET 1 POWER ON stop all"):
+                self.assertEqual(self.after(act, stop), [mode, "0", "126", *functions], act)
+            self.assertEqual(self.after(act, first="SET 1 POWER ON stop all"), [mode, "0", "126", *functions], act)
             self.assertEqual(self.after(act), [mode, "60", "126", *functions], act)
             self.assertEqual(self.after(act, "SET 1 GL 3 1 0 126", "SET 1 GL 3 1 20 126")[1], "20", act)

@@ -1,4 +1,5 @@
 """What a hand throttle at a station did, and what comes before the registry is told of it."""
+import asyncio
 import types
 import unittest
 from unittest import mock
@@ -29,6 +30,18 @@ class HandsBeforeStops(unittest.IsolatedAsyncioTestCase):
         hands.drives(3, 46, 1, Drive(0, 2, 0, 126, ()), (1, 0))  # by who has seen that it was stopped
         await hands.orders.carry_out()
         self.assertEqual(asked, ["SET 1 GL 3 1 46 126"])
+
+    async def test_an_echo_that_is_as_late_as_a_line_may_be_silent(self):
+        """It is no hand's doing. What is later than that is one."""
+        from srcp_bridges.stations.reports import Reports
+        from srcp_bridges.stations.station import words_of_driver
+        silence, loop = words_of_driver("").parse_args([]).silence, asyncio.get_running_loop()
+        loop.set_debug(False)  # which looks at the clock
+        for late, is_hand in ((silence, False), (silence + 5, True)):
+            reports, now = Reports(), loop.time()
+            reports.telling(("cab", 3), (60, 1))
+            with mock.patch.object(loop, "time", lambda: now + late):
+                self.assertEqual(reports.is_news(("cab", 3), (60, 1)), is_hand)
 
 
 class HandsBeforeRows(unittest.IsolatedAsyncioTestCase):

@@ -164,6 +164,20 @@ class Z21WithShuffles(InTheEnd, Z21Case):
     named = "z21_with_shuffles"
     spoils = dict(shuffles=0.1)
 
+    def test_a_speed_that_comes_behind_a_stop(self):
+        """It is no hand's: the train stands, and its row says so. A STOP ALL is no other stop."""
+        for turn in range(20):
+            stop = ("SET 1 GL 3 2 0 28", "SET 1 POWER ON stop all")[turn % 2]
+            self.station.trouble.shuffles = 0
+            self.throttle.order("SET 1 POWER ON", "SET 1 GL 3 1 14 28")
+            self.track(lambda s: s.power and s.cabs[3] == (63, 1), "it drives")
+            self.station.trouble.shuffles = 0.5
+            self.throttle.order("SET 1 GL 3 1 20 28")
+            time.sleep(0.02)
+            self.throttle.order(stop)
+            time.sleep(2 * QUIET)
+            self.assertEqual((self.station.cabs[3][0] > 0, self.commanded()), (False, {}), stop)
+
 
 class Z21Start(Z21Case):
     """It is locked: it answers, and does not drive."""

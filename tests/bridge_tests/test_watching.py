@@ -5,7 +5,7 @@ from collections.abc import Callable
 from typing import Any
 
 from .common import free_port, new_folder
-from .watching import Watch
+from .watching import AFTER_STOP_ALL, Watch
 
 
 class Watching(unittest.TestCase):
@@ -38,7 +38,7 @@ class Watching(unittest.TestCase):
         self.at(end, lambda: self.watch.look(self.moves))
         counted = {kind: count for kind, count in self.watch.count.items() if kind.startswith(("start ", "drive on"))}
         self.assertEqual((counted, len(self.watch.breaches)), ({kind: kinds.count(kind) for kind in kinds}, len(kinds)))
-        self.assertEqual(self.told, self.watch.breaches)
+        self.assertEqual([text for text in self.told if "BREACH" in text], self.watch.breaches)
 
     def test_a_start_that_somebody_commanded(self) -> None:
         self.drives(1)
@@ -92,6 +92,30 @@ class Watching(unittest.TestCase):
         self.is_lost(10, 12)
         self.moves += [(10.4, 3, 60), (10.5, 3, 0)]
         self.says("start after loss", "start after loss")
+
+    def test_what_comes_late_since_the_machine_was_busy(self) -> None:
+        """A program waited for a processor for a second. What is later is a breach, and so is a start of before
+        a STOP ALL that was confirmed."""
+        breaches = ["start after loss", "start after to stand", f"drive on {AFTER_STOP_ALL}"]
+        for late, kinds in ((0.9, []), (1.1, breaches)):
+            self.setUp()
+            self.watch.delay = lambda begin, end: 1.0
+            self.drives(4)
+            self.is_lost(5, 8)
+            self.moves += [(5 + late, 3, 60), (7, 3, 0), (10.6 + late, 5, 60), (11.9, 5, 0), (21, 4, 60),
+                           (30.15 + late, 4, 0)]
+            self.drives(10, cab=5)
+            self.at(10.05, lambda: self.watch.done(self.watch.stands(5)))
+            self.drives(20, cab=4)
+            self.stops_all(30)
+            self.says(*kinds)
+            self.assertEqual(self.watch.count["late by the machine"], 3 - len(kinds))
+        self.setUp()
+        self.watch.delay = lambda begin, end: 100.0
+        self.drives(1)
+        self.stops_all(2)
+        self.moves += [(3, 3, 60), (3.1, 3, 0)]
+        self.says("start after STOP ALL")
 
     def test_a_start_of_before_a_loss_at_a_line_that_loses_none(self) -> None:
         self.drives(4.2)
@@ -171,6 +195,13 @@ class Watching(unittest.TestCase):
         self.moves += [(2.6, 3, 60), (2.7, 3, 0)]
         self.says("start after to stand")
         self.assertIn("stands at 2.700", self.told[0])
+
+    def test_a_start_after_a_command_to_stand_that_was_refused(self) -> None:
+        self.drives(1)
+        self.at(1.5, lambda: self.watch.stands(3))
+        self.watch.refused(3, self.watch.stood[3][-1])
+        self.moves += [(3, 3, 60)]
+        self.says()
 
     def test_a_start_after_a_command_to_stand_that_a_driver_did_not_hear(self) -> None:
         """It slept, and carries out one command after the other as it wakes."""

@@ -51,7 +51,8 @@ class Watch:
     `drives`, `stands`, `loses` and `stops_all` are called just before that happens; `done` and `found` behind it. The
     station's power is locomotive 0, if the observer `knows_power`: a STOP ALL does not matter to it. `is_lossy`: the
     line loses some of what it carries. What was commanded just before a loss is told again then, until the driver knows
-    of that loss or the station confirms it.
+    of that loss or the station confirms it. `delay` returns for how long the machine had one program wait between
+    two moments: what comes too late by less is counted by itself, and is no breach.
     """
 
     def __init__(self, name: str, tell: Callable[[str], None], clock: Clock = time.monotonic, knows_power=True) -> None:
@@ -71,6 +72,7 @@ class Watch:
         self.checks: list[Check] = []
         self.moved: defaultdict[int, list[tuple[float, int]]] = defaultdict(list)
         self.is_lossy = False
+        self.delay: Callable[[float, float], float] = lambda begin, end: 0.0
         self.latest = 0.0  # seconds by which the last one stood too late after a STOP ALL, at most
         self.seen = 0
 
@@ -91,6 +93,10 @@ class Watch:
         """The reply to a command has come; or it has none, and is carried out soon."""
         command.done = self.clock() + (0 if has_reply else UNREPLIED)
         command.surely = command.done if has_reply else self.clock() + QUEUED
+
+    def refused(self, cab: int, command: Command) -> None:
+        """A command to stand was refused: its locomotive may drive on."""
+        self.stood[cab].remove(command)
 
     def loses(self, what: str) -> Loss:
         """Something is about to be lost: all that was commanded before is over."""
@@ -176,8 +182,23 @@ class Watch:
         ends = {"to stand": last(stood), "STOP ALL": last(stops), "loss": last(losses)}
         if not self.is_driven(cab, max(ends.values()), moment) and not self.is_told_again(cab, ends, moment):
             why = max(ends, key=lambda name: ends[name])
+            ended = {"loss": last([loss.begin for loss in self.losses if loss.begin <= moment]),
+                     "to stand": ends["to stand"] + STOOD}.get(why, -inf)
+            since = max((command.sent for command in self.sent(cab, moment)), default=inf)
+            if self.is_late_by_machine(cab, max(since, ended - QUEUED), moment, moment - ended):
+                return
             self.breach(f"start after {why}", cab, f"starts at {self.at(moment)} at speed {speed}, "
                         f"stands at {self.at(self.stands_from(cab, moment))}", moment)
+
+    def is_late_by_machine(self, cab: int, begin: float, end: float, late: float) -> bool:
+        """Returns whether what was commanded at one moment, and came at another, would not have been late if no program
+        had waited for a processor."""
+        if not begin < end < inf or (delay := self.delay(begin, end)) < late:
+            return False
+        self.count["late by the machine"] += 1
+        self.tell(f"{self.name}: locomotive {cab} is late by {late:.2f} s at {self.at(end)}; "
+                  f"meanwhile a program waited {delay:.2f} s for a processor")
+        return True
 
     def carry_out(self, check: Check) -> None:
         for cab in self.moved:
@@ -187,6 +208,8 @@ class Watch:
                 ended = self.stands_from(cab, check.moment)
                 if check.what == AFTER_STOP_ALL:
                     self.latest = max(self.latest, ended - check.moment)
+                    if self.is_late_by_machine(cab, check.since, ended, ended - check.moment):
+                        continue
                 self.breach(f"drive on {check.what}", cab,
                             f"still drives at {self.at(check.moment)}, stands at {self.at(ended)}", check.moment)
 
