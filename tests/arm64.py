@@ -8,7 +8,7 @@ import tempfile
 from contextlib import contextmanager
 from pathlib import Path
 
-from debian_package import pack
+from debian_package import pack, version_of_these_sources
 from pages import TOP, reader_of_a_page, take_bridges
 from releases import unpack
 from serving import SECONDS, TriedNothing
@@ -30,7 +30,6 @@ RESERVE = "MALLOC_TOP_PAD_"
 RESERVED = 64 << 20
 MINUTES = 10
 NOT_BUILT = 3  # the status of packaging/arm64/build if there is nothing to build it over
-VERSION = "srcp_server 1.0\n"
 
 
 @functools.cache
@@ -92,7 +91,8 @@ def cases_on_arm64(_):
 def processors_of_the_install_page(_):
     """The program runs on the processors of the Raspberry Pis that the page names."""
     page = " ".join((TOP / "docs" / "install.md").read_text().split())
-    wrong = [name for name in PROCESSORS if version_told([*EMULATED, "-cpu", name, program_for_arm64()]) != VERSION]
+    want = version_of_these_sources()
+    wrong = [name for name in PROCESSORS if version_told([*EMULATED, "-cpu", name, program_for_arm64()]) != want]
     return f"does not run on {wrong}" if wrong else None if "of a Pi 3, 4 and 5" in page else "the page names others"
 
 
@@ -124,7 +124,8 @@ def package_for_arm64(program):
     newest = re.search(r"^Depends: libc6 \(>= ([\d.]+)\)", control, re.M)[1]
     got = (files, told, "Architecture: arm64\n" in control, is_stripped, newest,
            refused.returncode, "strip" in refused.stderr)
-    want = {"DEBIAN/control", "DEBIAN/md5sums", "usr/bin/srcp_server"}, VERSION, True, True, "2.34", 1, True
+    want = ({"DEBIAN/control", "DEBIAN/md5sums", "usr/bin/srcp_server"}, version_of_these_sources(), True, True, "2.34",
+            1, True)
     return None if got == want else f"got {got}"
 
 

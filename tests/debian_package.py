@@ -249,11 +249,16 @@ def package_suggests_what_its_programs_can_use(_: str) -> str | None:
     return f"not suggested: {missing}" if missing or len(others) < 3 else None
 
 
+def version_of_these_sources() -> str:
+    """What the program says to `--version`: the version of the welcome line, and the newest of the changes."""
+    newest = re.search(r"^## (.*)$", (TOP / "CHANGELOG.md").read_text(), re.M)[1]
+    return f"{WELCOME.decode().partition(';')[0]} (release {newest})\n"
+
+
 def version_is_counted_once(program):
-    """The package, its changelog and the pages have one version; the program and its welcome line have another. The
-    changes may have one more, which is not released yet."""
-    told = subprocess.run([program, "--version"], capture_output=True, text=True, timeout=SECONDS).stdout.split()
-    welcome = WELCOME.decode().partition(";")[0].split()
+    """The package, its changelog and the pages have one version, which the program says beside that of its welcome
+    line. The program and the changes may have one more, which is not released yet."""
+    told = subprocess.run([program, "--version"], capture_output=True, text=True, timeout=SECONDS).stdout
     changes = (TOP / "CHANGELOG.md").read_text()
     readme = (TOP / "README.md").read_text()
     install = (TOP / "docs" / "install.md").read_text()
@@ -261,9 +266,9 @@ def version_is_counted_once(program):
     heads = re.findall(r"^## (.*)$", changes, re.M)
     named = set(re.findall(r"srcp-server_([\d.]+-\d+)_", readme + install))
     front = re.findall(r"^Version ([\d.]+): \[what is new\]\(CHANGELOG.md\)\.$", readme, re.M)
-    got = welcome, "`srcp_server 1.0`" in changes, package in [f"{head}-1" for head in heads[:2]], named, front
-    want = ["srcp_server", "1.0"], True, True, {package}, [package.removesuffix("-1")]
-    return None if told == welcome and got == want else f"{told}, {got}"
+    got = told, "`srcp_server 1.0`" in changes, package in [f"{head}-1" for head in heads[:2]], named, front
+    want = version_of_these_sources(), True, True, {package}, [package.removesuffix("-1")]
+    return None if got == want else f"{got}"
 
 
 def changes_of_the_package_are_those_of_the_page(_):

@@ -26,6 +26,9 @@ BETWEEN_PULSES = 4
 ASKED = 100
 LONGEST_REPLY = 0.1
 LONGEST_ASKING = 0.8
+LONGEST_WELCOME = 2
+ROWS = 10_000
+CHANGES = 500
 
 
 @contextmanager
@@ -245,6 +248,38 @@ def clients_that_are_turned_away_and_stay(program):
     return f"{len(cut)} of {READERS} readers are cut: {cut[0]} of {owed + BESIDE} lines" if cut else None
 
 
+def panels_that_are_closed(port, throttle, count):
+    """Panels that read no row, and that the server has closed since they are too far behind."""
+    panels, sessions = [], []
+    for _ in range(count):
+        panel, told = small_socket(port), b""
+        panel.sendall(b"SET CONNECTIONMODE SRCP INFO\nGO\n")
+        while told.count(b"\n") < BESIDE - 1:
+            told += panel.recv(1)
+        panels.append(panel)
+        sessions.append(int(told.split()[-1]))
+    changes = [f"SET 1 POWER ON {number}" for number in range(CHANGES)]
+    while any("416" not in throttle.asks(f"GET 0 SESSION {session}") for session in sessions):
+        throttle.asks_many(changes)
+    return panels
+
+
+def newcomer_beside_64_that_ended_and_are_owed(program):
+    """Who comes is served at once beside 64 panels that were closed and take nothing: 63 places are free."""
+    with served(program) as (port, _):
+        throttle = Client(port, "COMMAND")
+        throttle.asks_many([f"INIT 1 GL {address} N 1 28 5" for address in range(1, ROWS + 1)])
+        panels = panels_that_are_closed(port, throttle, SENDERS - 1) + panels_that_are_closed(port, throttle, 1)
+        begun = time.monotonic()
+        try:
+            Client(port, "COMMAND", seconds=SECONDS).close()
+        except TimeoutError:
+            pass
+        waited = time.monotonic() - begun
+        cut = [fault for _, fault in map(lines_to_the_end, panels) if fault]
+    return None if waited < LONGEST_WELCOME and not cut else f"it waits {waited:.1f} s; the panels are cut by {cut}"
+
+
 def end_of_a_session_with_much_behind_it(program):
     """16 MB come behind the command that ends a session: they are dropped as fast as they come, and the reply is
     there."""
@@ -280,5 +315,5 @@ def clients_at_64_places(program):
 
 LINGERING_CASES = (urgent_data_stalls_nobody, pulse_sent_to_a_server_that_stood_still, fall_after_a_long_wait,
                    leaver_that_reads_late, half_closed_session_that_does_not_read,
-                   clients_that_are_turned_away_and_stay, clients_that_are_turned_away_and_send,
+                   clients_that_are_turned_away_and_stay, newcomer_beside_64_that_ended_and_are_owed, clients_that_are_turned_away_and_send,
                    end_of_a_session_with_much_behind_it, clients_at_64_places)

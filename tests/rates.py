@@ -1,6 +1,7 @@
 """How fast a panel has to read beside sessions that send without end, and how many changes may come at one moment."""
 import os
 import signal
+import socket
 import threading
 import time
 from contextlib import contextmanager
@@ -12,10 +13,14 @@ from serving import LAYOUT, Client, served
 # The bytes of a line that tells a change of FB 1.
 LINE = len(b"1793674849.260 100 INFO 1 FB 1 1\n")
 GONE = "416 ERROR no data"
+# How many lines a second a panel reads that is closed. A busy machine may let no more than a few hundred through.
+TOO_FEW = 30
 SECONDS_OF_LOAD = 5
 LONGEST_UNTIL_CLOSED = 15
 # For how many milliseconds a panel is kept at least whose socket takes nothing more.
 KEPT = 150
+CHANGES_BY_HAND = 60
+LATE_ACKNOWLEDGEMENT = 0.04
 PANELS = 8
 MOST_CHANGES = 40_000
 LOCOMOTIVES = 10_239
@@ -98,8 +103,25 @@ def panel_that_reads_a_little_faster_than_a_change_a_millisecond(program):
 def panel_that_reads_slower_than_a_line_a_millisecond(program):
     """It is closed once all buffers on its way are full, so that nobody waits for it for ever."""
     with served(program) as (port, _):
-        closed = closed_after(port, 300, LONGEST_UNTIL_CLOSED)
+        closed = closed_after(port, TOO_FEW, LONGEST_UNTIL_CLOSED)
     return f"it is not closed in {LONGEST_UNTIL_CLOSED} s" if closed is None else None
+
+
+def changes_reach_a_panel_that_acknowledges_late(program):
+    """The panel's system acknowledges 40 ms late, and a change comes each few milliseconds. None waits for that."""
+    with served(program) as (port, _):
+        throttle, panel = Client(port, "COMMAND"), Client(port, "INFO")
+        panel.hears_until(b" 100 INFO 1 FB 8 0\n")
+        waits = []
+        for number in range(CHANGES_BY_HAND):
+            panel.socket.setsockopt(socket.IPPROTO_TCP, socket.TCP_QUICKACK, 0)
+            begun = time.monotonic()
+            throttle.asks(f"SET 1 FB 1 {(number + 1) % 2}")
+            panel.line()
+            waits.append(time.monotonic() - begun)
+            time.sleep(0.003)
+    median = sorted(waits)[CHANGES_BY_HAND // 2]
+    return None if median < LATE_ACKNOWLEDGEMENT / 2 else f"half of the changes take {median:.3f} s or more"
 
 
 def moment_of(line):
@@ -227,4 +249,4 @@ def falls_heard(panel, most):
 RATE_CASES = (panel_that_reads_a_little_faster_than_a_line_a_millisecond,
               panel_that_reads_a_little_faster_than_a_change_a_millisecond,
               panel_that_reads_slower_than_a_line_a_millisecond, panel_whose_socket_takes_nothing_more,
-              emergency_stop_goes_first, changes_at_one_moment_beside_many, falls_at_a_server_that_stood_still)
+              emergency_stop_goes_first, changes_reach_a_panel_that_acknowledges_late, changes_at_one_moment_beside_many, falls_at_a_server_that_stood_still)

@@ -9,9 +9,10 @@ from serving import Client, served
 
 SENDERS = 60
 MAKERS = (7, 16)
-# How many lines a second the panel reads, and for how many seconds what is answered is counted, after the first.
+# How many lines a second the panel reads, and for how many seconds what is answered is counted, after the first. What a
+# panel takes at once lets each session of a part of the round have a share more: over so long that matters little.
 LINES_A_SECOND = 1_200
-SECONDS = 3.0
+SECONDS = 6.0
 WARMING = 1.0
 BETWEEN_STOPS = 0.05
 # A stop waits for two services of each other session at most, one a millisecond, and longer on a busy machine.
@@ -125,7 +126,7 @@ def sessions_that_make_accessories_beside_a_slow_panel(program):
         with served(program, layout=EIGHT_PORTS) as (port, _):
             makers = Senders(port, count, INITS)
             with panel_reading(port, LINES_A_SECOND), sending(makers):
-                time.sleep(2 * SECONDS)
+                time.sleep(SECONDS)
         if wrong := unlike(makers.counts()):
             return wrong
     return None

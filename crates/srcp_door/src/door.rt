@@ -42,12 +42,16 @@ pub trait Door {
     /// The calls with their answers, if the door keeps them.
     ghost trace: { Self → Option (List Call) } = { λ _. None };
 
+    /// How many milliseconds `now` waits at most if nothing happens. No call changes that.
+    ghost limit: { Self → Option ℕ } = { λ _. None };
+
     /// Tells the door when the next row falls due, and how many more changes each information session can take. Either
     /// is `None` if there is no such row or no such session. `serve` makes this call right before `now`. A door then
     /// knows how long a wait may take, and how much input may be handed out.
     fn expect(&mut self, due: Option<u64>, slack: Option<usize>)
         ensures faults { faults self.new ≡ faults self.old }
-        ensures trace { Extends (trace self.old) (ExpectCall due slack) (trace self.new) };
+        ensures trace { Extends (trace self.old) (ExpectCall due slack) (trace self.new) }
+        ensures limit { limit self.new ≡ limit self.old };
 
     /// Returns the time, in milliseconds since 1970. A door over sockets waits here for input, for sockets that take
     /// more bytes, and for the next row that falls due.
@@ -58,7 +62,8 @@ pub trait Door {
         ensures ok { OnOk result (faults self.new ≡ faults self.old) }
         ensures err { OnErr result (faults self.new ≡ one_more (faults self.old)) }
         ensures fault { IfErr result (λ fault. fault ≡ DoorFault.Now) }
-        ensures trace { Extends (trace self.old) (NowCall result) (trace self.new) };
+        ensures trace { Extends (trace self.old) (NowCall result) (trace self.new) }
+        ensures limit { limit self.new ≡ limit self.old };
 
     /// Accepts a pending peer, if any, and returns the peer's number. All later calls name the peer by that number, and
     /// no later peer gets the number.
@@ -69,7 +74,8 @@ pub trait Door {
         ensures ok { OnOk result (faults self.new ≡ faults self.old) }
         ensures err { OnErr result (faults self.new ≡ one_more (faults self.old)) }
         ensures fault { IfErr result (λ fault. fault ≡ DoorFault.Accept) }
-        ensures trace { Extends (trace self.old) (AcceptCall result) (trace self.new) };
+        ensures trace { Extends (trace self.old) (AcceptCall result) (trace self.new) }
+        ensures limit { limit self.new ≡ limit self.old };
 
     /// Reads the bytes that came from a peer, at most as many as the buffer holds.
     ///
@@ -81,7 +87,8 @@ pub trait Door {
         ensures err { OnErr result (faults self.new ≡ one_more (faults self.old)) }
         ensures fault { IfErr result (λ fault. fault ≡ DoorFault.Read) }
         ensures count { (n : ℕ) → result ≡ Ok (Got.Bytes n) → (0 < n) × (n ≤ length buf.old) }
-        ensures trace { Extends (trace self.old) (ReadCall peer result buf.new) (trace self.new) };
+        ensures trace { Extends (trace self.old) (ReadCall peer result buf.new) (trace self.new) }
+        ensures limit { limit self.new ≡ limit self.old };
 
     /// Writes to a peer as many bytes as the peer takes, from the first on, and returns how many. The other bytes have
     /// to be written again.
@@ -93,7 +100,8 @@ pub trait Door {
         ensures err { OnErr result (faults self.new ≡ one_more (faults self.old)) }
         ensures fault { IfErr result (λ fault. fault ≡ DoorFault.Write) }
         ensures count { IfOk result (λ n. n ≤ length bytes.now) }
-        ensures trace { Extends (trace self.old) (WriteCall peer bytes.now result) (trace self.new) };
+        ensures trace { Extends (trace self.old) (WriteCall peer bytes.now result) (trace self.new) }
+        ensures limit { limit self.new ≡ limit self.old };
 
     /// Closes a peer. No later call names the peer.
     ///
@@ -103,5 +111,6 @@ pub trait Door {
         ensures ok { OnOk result (faults self.new ≡ faults self.old) }
         ensures err { OnErr result (faults self.new ≡ one_more (faults self.old)) }
         ensures fault { IfErr result (λ fault. fault ≡ DoorFault.Close) }
-        ensures trace { Extends (trace self.old) (CloseCall peer result) (trace self.new) };
+        ensures trace { Extends (trace self.old) (CloseCall peer result) (trace self.new) }
+        ensures limit { limit self.new ≡ limit self.old };
 }

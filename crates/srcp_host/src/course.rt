@@ -20,6 +20,7 @@ pub fn serve_sockets<R: Rows, S: System>(
 ) -> Served
     ensures turns { result.turns ≡ turns }
     ensures faults { door.new.faults < greatest_u64 → door.old.faults + result.faults ≡ door.new.faults }
+    ensures limit { door.new.sockets.most ≡ door.old.sockets.most }
     ensures course { Follows turns result.opened core.old door.old.sockets.system.log.steps
         core.new door.new.sockets.system.log.steps }
 {

@@ -1,6 +1,6 @@
 //! Serving a file.
 
-ghost use Rattle.std.specs.Prelude.{◌≡◌, ◌<◌, IfErr, IfOk};
+ghost use Rattle.std.specs.Prelude.{◌≡◌, ◌<◌, IfErr, IfOk, None};
 ghost use Rattle.srcp_info.specs.Limits.{greatest_u64};
 ghost use Rattle.srcp_host.specs.Hosting.{Refuses, Serves, longest_of_turns};
 
@@ -43,6 +43,7 @@ pub fn serve_file<R: Rows, O: Opener>(
         hosted.door.sockets.system.log.steps) }
     ensures faults { IfOk result (λ hosted. hosted.door.faults < greatest_u64
         → hosted.served.faults ≡ hosted.door.faults) }
+    ensures limit { IfOk result (λ hosted. hosted.door.sockets.most ≡ longest_of_turns turns None) }
     ensures refused { IfErr result (λ fault. Refuses O.answers file.now opener.old opener.new fault) }
 {
     let config = read_layout(alloc, file)?;

@@ -1,8 +1,9 @@
 //! The machine: sockets and clocks.
 
-ghost use Rattle.std.specs.Prelude.{◌≡◌, ◌<◌, IfErr, IfOk};
+ghost use Rattle.std.specs.Prelude.{◌≡◌, ◌<◌, IfErr, IfOk, None};
 ghost use Rattle.srcp_info.specs.Limits.{greatest_u64};
 ghost use Rattle.srcp_host.specs.Here.{RefusesHere, ServesHere};
+ghost use Rattle.srcp_host.specs.Hosting.{longest_of_turns};
 ghost use Rattle.srcp_sockets.specs.Faults.{IsLocal};
 
 use crate::fault::HostFault;
@@ -56,6 +57,7 @@ pub fn serve_here<'a, K: Rows, R: Net + Clock>(
         hosted.door.sockets.system.system hosted.door.sockets.system.log.steps) }
     ensures faults { IfOk result (λ hosted. hosted.door.faults < greatest_u64
         → hosted.served.faults ≡ hosted.door.faults) }
+    ensures limit { IfOk result (λ hosted. hosted.door.sockets.most ≡ longest_of_turns turns None) }
     ensures refused { IfErr result (λ fault. RefusesHere file.now fault) }
 {
     serve_file::<K, Machine<R>>(&mut Machine { rt }, alloc, file, turns)

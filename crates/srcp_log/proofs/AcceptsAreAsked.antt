@@ -18,14 +18,14 @@ use Rattle.srcp_peers.specs.declared.peer.Peer.{Peer}
 use Rattle.srcp_peers.specs.declared.stay.Stay.{Stay}
 use Rattle.srcp_peers.specs.declared.stay.Stay.TheVariants as stay
 use Rattle.srcp_peers.specs.declared.turn.Listening.{Listening}
-use Rattle.srcp_peers.specs.Accounts.{Account, Lingering, account, closed, is_lingering}
+use Rattle.srcp_peers.specs.Accounts.{Account, Lingering, account, closed}
 use Rattle.srcp_peers.specs.AllPeers.{AreApart}
-use Rattle.srcp_peers.specs.Peers.{StaysAs, is_here}
+use Rattle.srcp_peers.specs.Peers.{StaysAs, is_shut}
 use Rattle.srcp_peers.specs.Steps.{Accepts, Answers, Clocks, Closes, Reads, SaysNothing, Shuts, Step, Waits, Writes, calls}
 use Rattle.srcp_peers.specs.Times.{Times, accept_answer, times}
 use Rattle.srcp_peers.proofs.PeersStayKept.{account_more, alien, skips}
 use Rattle.srcp_peers.proofs.CallsAreOfTheDoor.{times_more}
-use Rattle.srcp_log.specs.Asked.{AreAsked, Covers, IsExcused, MayAnswer}
+use Rattle.srcp_log.specs.Asked.{AreAsked, Covers, IsExcused, MayAnswer, is_shut_down}
 use Rattle.srcp_log.specs.Doors.{Stands}
 use Rattle.srcp_log.specs.Work.{is_crowded}
 use Rattle.srcp_log.proofs.AcceptsKeepSockets.{new_peer}
@@ -203,26 +203,28 @@ passes test (x ∷ xs) socket e = by (test x) refl e (passes test xs socket)
     by false failed f rest = rest f
 
 same_count : (test : ℕ → Bool) (peers : List Peer)
-    → ((k : ℕ) (d : Peer) → k < length peers → test (slice_index_or peers k d).number ≡ not (is_here (slice_index_or peers k d).stay))
-    → length (filter test (numbers peers)) ≡ length (filter (λ (p : Peer). not (is_here p.stay)) peers)
+    → ((k : ℕ) (d : Peer) → k < length peers → test (slice_index_or peers k d).number ≡ is_shut (slice_index_or peers k d).stay)
+    → length (filter test (numbers peers)) ≡ length (filter (λ (p : Peer). is_shut p.stay) peers)
 same_count test [] each = refl
-same_count test (p ∷ peers) each = by (test p.number) (not (is_here p.stay)) (each 0 p (omega arith))
+same_count test (p ∷ peers) each = by (test p.number) (is_shut p.stay) (each 0 p (omega arith))
     (same_count test peers (λ k d lt. each (suc k) d (omega (arith, lt))))
   where
     by : (b c : Bool) → b ≡ c
-        → length (filter test (numbers peers)) ≡ length (filter (λ (q : Peer). not (is_here q.stay)) peers)
+        → length (filter test (numbers peers)) ≡ length (filter (λ (q : Peer). is_shut q.stay) peers)
         → length (cond b (p.number ∷ filter test (numbers peers)) (filter test (numbers peers)))
-        ≡ length (cond c (p ∷ filter (λ (q : Peer). not (is_here q.stay)) peers) (filter (λ (q : Peer). not (is_here q.stay)) peers))
+        ≡ length (cond c (p ∷ filter (λ (q : Peer). is_shut q.stay) peers) (filter (λ (q : Peer). is_shut q.stay) peers))
     by true true e rest = omega (arith, rest)
     by false false e rest = rest
     by true false e rest = absurd (true≢false e)
     by false true e rest = absurd (true≢false (sym e))
 
-stays_lingering : (watched : Bool) (lingering : Lingering) (outgoing : List ℕ) (s : Stay) → StaysAs watched lingering outgoing s
-    → (not watched && lingering.kept) ≡ not (is_here s)
-stays_lingering watched lingering outgoing stay.Here h = ap (λ w. not w && lingering.kept) h.0
-stays_lingering watched lingering outgoing (stay.Draining since) h = ap (λ w. not w && lingering.kept) h.0 ∙ h.1
-stays_lingering watched lingering outgoing (stay.Shut since) h = ap (λ w. not w && lingering.kept) h.0 ∙ h.1
+stays_shut : (watched : Bool) (lingering : Lingering) (outgoing : List ℕ) (s : Stay) → StaysAs watched lingering outgoing s
+    → ((not watched && lingering.kept) && lingering.shut) ≡ is_shut s
+stays_shut watched lingering outgoing stay.Here h = ap (λ w. (not w && lingering.kept) && lingering.shut) h.0
+stays_shut watched lingering outgoing (stay.Draining since) h =
+    ap (λ w. (not w && lingering.kept) && lingering.shut) h.0 ∙ ap (λ k. k && lingering.shut) h.1 ∙ h.3
+stays_shut watched lingering outgoing (stay.Shut since) h =
+    ap (λ w. (not w && lingering.kept) && lingering.shut) h.0 ∙ ap (λ k. k && lingering.shut) h.1 ∙ h.3
 
 stays_kept : (watched : Bool) (lingering : Lingering) (outgoing : List ℕ) (s : Stay) → StaysAs watched lingering outgoing s
     → lingering.kept ≡ true
@@ -234,46 +236,46 @@ abbrev is_kept : Account → Bool
 is_kept a = a.lingering.kept
 
 crowded_is : (log : List Step) (peers : List Peer) (l : Listening) (last : ℕ) → Stands log peers l last → is_crowded peers ≡ true
-    → (kept lingering : List ℕ) → Covers is_kept log kept
-    → Covers is_lingering log lingering → (nat_le 129 (length kept) || nat_le 64 (length lingering)) ≡ true
-crowded_is log peers l last stands crowded kept lingering all_kept all_lingering = ⊎_elim
+    → (kept shut : List ℕ) → Covers is_kept log kept
+    → Covers is_shut_down log shut → (nat_le 129 (length kept) || nat_le 64 (length shut)) ≡ true
+crowded_is log peers l last stands crowded kept shut all_kept all_shut = ⊎_elim
     (λ (full : nat_le 129 (length peers) ≡ true).
     let most : length (numbers peers) ≤ length kept = length-le_from_is_member nat_eq_equiv (numbers peers) kept differ
     (λ socket there. all_kept socket (each_number (λ n. is_kept (account n log)) peers
     (λ k d lt. let p = slice_index_or peers k d in let a = account p.number log in
     stays_kept a.watched a.lingering p.outgoing p.stay (stands.kept k d lt).stays) socket there)) in
-    ap (λ b. b || nat_le 64 (length lingering))
+    ap (λ b. b || nat_le 64 (length shut))
     (at_least 129 (length peers) (length kept) full (omega (arith, most, length_numbers peers))))
-    (λ (many : nat_le 64 (length (filter (λ (p : Peer). not (is_here p.stay)) peers)) ≡ true).
-    let most : length (filter lingers (numbers peers)) ≤ length lingering =
-    length-le_from_is_member nat_eq_equiv (filter lingers (numbers peers)) lingering
-    (differ_filter lingers (numbers peers) differ)
-    (λ socket there. all_lingering socket (passes lingers (numbers peers) socket there)) in
+    (λ (many : nat_le 64 (length (filter (λ (p : Peer). is_shut p.stay) peers)) ≡ true).
+    let most : length (filter rests (numbers peers)) ≤ length shut =
+    length-le_from_is_member nat_eq_equiv (filter rests (numbers peers)) shut
+    (differ_filter rests (numbers peers) differ)
+    (λ socket there. all_shut socket (passes rests (numbers peers) socket there)) in
     ap (λ b. nat_le 129 (length kept) || b)
-    (at_least 64 (length (filter (λ (p : Peer). not (is_here p.stay)) peers)) (length lingering) many (omega (arith, most, count)))
+    (at_least 64 (length (filter (λ (p : Peer). is_shut p.stay) peers)) (length shut) many (omega (arith, most, count)))
     ∙ or_last (nat_le 129 (length kept)))
-    (or_cases (nat_le 129 (length peers)) (nat_le 64 (length (filter (λ (p : Peer). not (is_here p.stay)) peers))) crowded)
+    (or_cases (nat_le 129 (length peers)) (nat_le 64 (length (filter (λ (p : Peer). is_shut p.stay) peers))) crowded)
   where
-    lingers : ℕ → Bool
-    lingers socket = is_lingering (account socket log)
+    rests : ℕ → Bool
+    rests socket = is_shut_down (account socket log)
 
     differ : IsDistinct (λ a b. a == b) (numbers peers)
     differ = numbers_differ peers stands.apart
 
-    count : length (filter lingers (numbers peers)) ≡ length (filter (λ (p : Peer). not (is_here p.stay)) peers)
-    count = same_count lingers peers (λ k d lt. let p = slice_index_or peers k d in let a = account p.number log in
-        stays_lingering a.watched a.lingering p.outgoing p.stay (stands.kept k d lt).stays)
+    count : length (filter rests (numbers peers)) ≡ length (filter (λ (p : Peer). is_shut p.stay) peers)
+    count = same_count rests peers (λ k d lt. let p = slice_index_or peers k d in let a = account p.number log in
+        stays_shut a.watched a.lingering p.outgoing p.stay (stands.kept k d lt).stays)
 
     at_least : (least n m : ℕ) → nat_le least n ≡ true → n ≤ m → nat_le least m ≡ true
     at_least least n m e le = grind (arith, nat_tests)
 
 -- one less than so many
-one_less : (kept lingering : ℕ) → (nat_le 129 (suc kept) || nat_le 64 (suc lingering)) ≡ true
-    → (nat_le 128 kept || nat_le 63 lingering) ≡ true
-one_less kept lingering e = ⊎_elim
-    (λ (h : nat_le 129 (suc kept) ≡ true). ap (λ b. b || nat_le 63 lingering) (less 128 kept h))
-    (λ (h : nat_le 64 (suc lingering) ≡ true). ap (λ b. nat_le 128 kept || b) (less 63 lingering h) ∙ or_last (nat_le 128 kept))
-    (or_cases (nat_le 129 (suc kept)) (nat_le 64 (suc lingering)) e)
+one_less : (kept shut : ℕ) → (nat_le 129 (suc kept) || nat_le 64 (suc shut)) ≡ true
+    → (nat_le 128 kept || nat_le 63 shut) ≡ true
+one_less kept shut e = ⊎_elim
+    (λ (h : nat_le 129 (suc kept) ≡ true). ap (λ b. b || nat_le 63 shut) (less 128 kept h))
+    (λ (h : nat_le 64 (suc shut) ≡ true). ap (λ b. nat_le 128 kept || b) (less 63 shut h) ∙ or_last (nat_le 128 kept))
+    (or_cases (nat_le 129 (suc kept)) (nat_le 64 (suc shut)) e)
   where
     less : (least n : ℕ) → nat_le (suc least) (suc n) ≡ true → nat_le least n ≡ true
     less least n h = grind (arith, nat_tests)
@@ -292,20 +294,20 @@ covers_more is_such log later one sockets same covers socket such = ⊎_elim
 
 pub may_crowded : (log : List Step) (peers : List Peer) (l : Listening) (last : ℕ) → Stands log peers l last
     → is_crowded peers ≡ true → IsExcused log
-may_crowded log peers l last stands crowded wall start none loud kept lingering all_kept all_lingering =
-    one_less (length kept) (length lingering)
-    (crowded_is log peers l last stands crowded (0 ∷ kept) (0 ∷ lingering)
+may_crowded log peers l last stands crowded wall start none loud kept shut all_kept all_shut =
+    one_less (length kept) (length shut)
+    (crowded_is log peers l last stands crowded (0 ∷ kept) (0 ∷ shut)
     (covers_more is_kept log log 0 kept (λ socket ne. refl) all_kept)
-    (covers_more is_lingering log log 0 lingering (λ socket ne. refl) all_lingering))
+    (covers_more is_shut_down log log 0 shut (λ socket ne. refl) all_shut))
 
 -- one was closed to make a place
 pub may_closed : (old new : List Step) (peers : List Peer) (l : Listening) (last who : ℕ) → Stands old peers l last
     → is_crowded peers ≡ true → new ≡ old ++ Closes who ∷ [] → IsExcused new
-may_closed old new peers l last who stands crowded tells wall start none loud kept lingering all_kept all_lingering =
-    one_less (length kept) (length lingering)
-    (crowded_is old peers l last stands crowded (who ∷ kept) (who ∷ lingering)
+may_closed old new peers l last who stands crowded tells wall start none loud kept shut all_kept all_shut =
+    one_less (length kept) (length shut)
+    (crowded_is old peers l last stands crowded (who ∷ kept) (who ∷ shut)
     (covers_more is_kept old new who kept (λ socket ne. ap is_kept (same socket ne)) all_kept)
-    (covers_more is_lingering old new who lingering (λ socket ne. ap is_lingering (same socket ne)) all_lingering))
+    (covers_more is_shut_down old new who shut (λ socket ne. ap is_shut_down (same socket ne)) all_shut))
   where
     same : (socket : ℕ) → (socket ≡ who → ⊥) → account socket new ≡ account socket old
     same socket ne = ap (account socket) tells ∙ account_more socket old (Closes who)

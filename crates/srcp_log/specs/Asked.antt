@@ -1,5 +1,5 @@
 -- When nobody is accepted, or a fault is answered, though the system was not asked.
-use Rattle.std.specs.Prelude.{⊤, ◌≡◌, ℕ, ◌==◌, ◌∷◌, ◌++◌, ◌-◌, ◌||◌, nat_le, Bool, true, false, List}
+use Rattle.std.specs.Prelude.{⊤, ◌≡◌, ℕ, ◌==◌, ◌∷◌, ◌++◌, ◌-◌, ◌||◌, ◌&&◌, nat_le, Bool, true, false, List}
 use Rattle.std.specs.Prelude.{filter_map, length, Option, Some, None, Result, Ok, Err}
 use Rattle.std.specs.List.{list_any}
 use Rattle.std.proofs.Props.{props}
@@ -16,11 +16,15 @@ abbrev pub Covers : (is_such : Account → Bool) → List Step → List ℕ → 
 Covers is_such log sockets = (socket : ℕ) → is_such (account socket log) ≡ true
     → list_any (λ other. socket == other) sockets ≡ true
 
--- there is no place, whatever lists have them: so many sockets were accepted and are not closed, or so many linger,
--- that one more is the most. One of the most may have been closed just now to make a place
+-- it lingers and was shut down, so it is owed nothing
+abbrev pub is_shut_down : Account → Bool
+is_shut_down a = is_lingering a && a.lingering.shut
+
+-- there is no place, whatever lists have them: so many sockets were accepted and are not closed, or so many linger and
+-- are owed nothing, that one more is the most. One of the most may have been closed just now to make a place
 abbrev pub IsCrowded : List Step → Type 0
-IsCrowded log = (kept lingering : List ℕ) → Covers (λ a. a.lingering.kept) log kept → Covers is_lingering log lingering
-    → (nat_le (most_peers - 1) (length kept) || nat_le (most_lingering - 1) (length lingering)) ≡ true
+IsCrowded log = (kept shut : List ℕ) → Covers (λ a. a.lingering.kept) log kept → Covers is_shut_down log shut
+    → (nat_le (most_peers - 1) (length kept) || nat_le (most_lingering - 1) (length shut)) ≡ true
 
 -- nobody need be accepted: the system was asked since `accept` was answered last, or the listener was found quiet, or
 -- there is no place

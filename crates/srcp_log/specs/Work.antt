@@ -15,7 +15,7 @@ use Rattle.srcp_peers.specs.declared.turn.Listening.{Listening}
 use Rattle.srcp_peers.specs.declared.turn.Listening.TheVariants as listening
 use Rattle.srcp_peers.specs.declared.turn.Turn.{Turn}
 use Rattle.srcp_peers.specs.Listeners.{listening_after_failure, woken_listening}
-use Rattle.srcp_peers.specs.Peers.{KeepsRest, Makes, enqueued, holds_input, is_gone, is_here, is_shut}
+use Rattle.srcp_peers.specs.Peers.{KeepsRest, Makes, enqueued, holds_input, is_gone, is_shut}
 use Rattle.srcp_peers.specs.Peers.{is_turn_before}
 use Rattle.srcp_peers.specs.Reports.{IsAnswered}
 use Rattle.srcp_peers.specs.Steps.{Accepts, Answers, Clocks, Closes, SaysNothing, Step, Waits, failure_of}
@@ -82,10 +82,10 @@ IsClocked turn answer old new = (shown : Option ℕ) × (answer ≡ moment_of tu
 
 -- ---- who is accepted
 
--- one that lingers has to be closed first: there is no place for one more, or as many linger as may
+-- one that lingers has to be closed first: there is no place for one more, or as many linger as may that are owed nothing
 abbrev pub is_crowded : List Peer → Bool
 is_crowded peers = nat_le most_peers (length peers)
-    || nat_le most_lingering (length (filter (λ peer. not (is_here peer.stay)) peers))
+    || nat_le most_lingering (length (filter (λ peer. is_shut peer.stay) peers))
 
 -- how the listener is heard after an accept of the system that answered so
 abbrev pub after_accept : Listening → Result Unit ErrorKind → Listening

@@ -21,7 +21,7 @@ mod system;
 mod turn;
 
 pub use ending::Ending;
-pub use lingering::{MOST_LINGERING, count_lingering, first_gone, first_shut};
+pub use lingering::{MOST_LINGERING, count_shut, first_gone, first_shut};
 pub use log::{Answer, Log, Logged};
 pub use peer::Peer;
 pub use queue::{Incoming, MOST_INCOMING, MOST_OUTGOING, Outgoing, Queue, Queues};

@@ -172,10 +172,17 @@ pub(crate) fn reads_each(peers: &[Peer]) -> usize
 }
 
 /// Returns how many peers linger.
-pub fn count_lingering(peers: &[Peer]) -> usize
+fn count_lingering(peers: &[Peer]) -> usize
     ensures { result ≡ length (filter (λ peer. not (is_here peer.stay)) peers.now) }
 {
     peers.iter().filter(|peer| !peer.stay.is_here()).count()
+}
+
+/// Returns how many peers linger and are owed nothing.
+pub fn count_shut(peers: &[Peer]) -> usize
+    ensures { result ≡ length (filter (λ peer. is_shut peer.stay) peers.now) }
+{
+    peers.iter().filter(|peer| peer.is_shut()).count()
 }
 
 /// Returns the index of the first lingering peer with nothing left to do, if any. `clock` is the monotonic clock, in

@@ -120,31 +120,34 @@ counts_then a b c d e f first second = record {
 
 -- ---- what the methods of a server do to its door, call after call
 
-module _ {D : Type 0} (faults : D → ℕ) (trace : D → Trace) where
+module _ {D : Type 0} (faults : D → ℕ) (trace : D → Trace) (limit : D → Option ℕ) where
   -- no call
-  pub calls_none : (s : Server D) → s.tally.faults ≤ faults s.door.now → CallsDoor faults trace AreAboutPeers s s
-  calls_none s counted = record { same_door = refl; counted = none_failed _ _ _ counted refl; asks = asks_none (trace s.door.now) }
+  pub calls_none : (s : Server D) → s.tally.faults ≤ faults s.door.now → CallsDoor faults trace limit AreAboutPeers s s
+  calls_none s counted = record { same_door = refl; counted = none_failed _ _ _ counted refl; asks = asks_none (trace s.door.now); same_limit = refl }
 
   -- one call, about a peer
   pub calls_one : (call : Call) (s t : Server D) → t.door.ghost_name ≡ s.door.ghost_name
       → CountsFaults s.tally.faults (faults s.door.now) t.tally.faults (faults t.door.now) → is_of_peer call ≡ true → IsFair call
-      → Extends (trace s.door.now) call (trace t.door.now) → CallsDoor faults trace AreAboutPeers s t
-  calls_one call s t same counted of_peer fair tells = record {
+      → Extends (trace s.door.now) call (trace t.door.now) → limit t.door.now ≡ limit s.door.now
+      → CallsDoor faults trace limit AreAboutPeers s t
+  calls_one call s t same counted of_peer fair tells limited = record {
     same_door = same;
     counted = counted;
     asks = asks_one _ call _ _ (record { peers = rw of_peer refl; fair = (fair, tt) }) tells;
+    same_limit = limited;
   }
 
   -- some calls, and then others
   pub calls_then : {A B C : List Call → Type 0} → ((xs ys : List Call) → A xs → B ys → C (xs ++ ys)) → (s t u : Server D)
-      → CallsDoor faults trace A s t → CallsDoor faults trace B t u → CallsDoor faults trace C s u
+      → CallsDoor faults trace limit A s t → CallsDoor faults trace limit B t u → CallsDoor faults trace limit C s u
   calls_then join s t u first second = record {
     same_door = second.same_door ∙ first.same_door;
     counted = counts_then _ _ _ _ _ _ first.counted second.counted;
     asks = asks_then join _ _ _ first.asks second.asks;
+    same_limit = second.same_limit ∙ first.same_limit;
   }
 
   -- calls about peers, and then others about peers
-  pub calls_on : (s t u : Server D) → CallsDoor faults trace AreAboutPeers s t → CallsDoor faults trace AreAboutPeers t u
-      → CallsDoor faults trace AreAboutPeers s u
+  pub calls_on : (s t u : Server D) → CallsDoor faults trace limit AreAboutPeers s t → CallsDoor faults trace limit AreAboutPeers t u
+      → CallsDoor faults trace limit AreAboutPeers s u
   calls_on = calls_then of_peers_then

@@ -50,6 +50,7 @@ pub fn serve<R: Rows, D: Door>(core: &mut Core<'_, R>, door: &mut D, turns: u64)
     ensures turns { result.turns ≡ turns }
     ensures faults { D.faults door.new < greatest_u64 → D.faults door.old + result.faults ≡ D.faults door.new }
     ensures trace { Asks (AreTurns turns) (D.trace door.old) (D.trace door.new) }
+    ensures limit { D.limit door.new ≡ D.limit door.old }
     ensures course { ServesCourse turns result.opened core.old (D.trace door.old) core.new (D.trace door.new) }
 {
     let mut server = Server::new(door);
@@ -92,7 +93,7 @@ impl<'d, D: Door> Server<'d, D> {
     /// Makes a turn. Returns whether a peer was connected.
     fn turn<R: Rows>(&mut self, core: &mut Core<'_, R>) -> bool
         requires { self.old.tally.faults ≤ D.faults self.old.door.now }
-        ensures calls { CallsDoor D.faults D.trace IsTurn self.old self.new }
+        ensures calls { CallsDoor D.faults D.trace D.limit IsTurn self.old self.new }
         ensures course { MakesTurn core.old (D.trace self.old.door.now) self.old.slots
             core.new (D.trace self.new.door.now) self.new.slots result }
     {
@@ -105,7 +106,7 @@ impl<'d, D: Door> Server<'d, D> {
     /// Visits the peers with slots, in the order of the slots.
     fn visit_slots<R: Rows>(&mut self, core: &mut Core<'_, R>)
         requires { self.old.tally.faults ≤ D.faults self.old.door.now }
-        ensures calls { CallsDoor D.faults D.trace AreAboutPeers self.old self.new }
+        ensures calls { CallsDoor D.faults D.trace D.limit AreAboutPeers self.old self.new }
         ensures course { VisitsSlots core.old (D.trace self.old.door.now) self.old.slots
             core.new (D.trace self.new.door.now) self.new.slots }
     {
@@ -119,7 +120,7 @@ impl<'d, D: Door> Server<'d, D> {
     fn visit_slot<R: Rows>(&mut self, core: &mut Core<'_, R>, slot: usize)
         requires counted { self.old.tally.faults ≤ D.faults self.old.door.now }
         requires within { slot < MOST_CONNECTIONS }
-        ensures calls { CallsDoor D.faults D.trace AreAboutPeers self.old self.new }
+        ensures calls { CallsDoor D.faults D.trace D.limit AreAboutPeers self.old self.new }
         ensures course { VisitsSlot core.old (D.trace self.old.door.now) self.old.slots
             core.new (D.trace self.new.door.now) self.new.slots slot }
         ensures slots { MayFree slot self.old.slots self.new.slots }
@@ -137,7 +138,7 @@ impl<'d, D: Door> Server<'d, D> {
     fn take_moment<R: Rows>(&mut self, core: &mut Core<'_, R>)
         requires { self.old.tally.faults ≤ D.faults self.old.door.now }
         ensures slots { self.new.slots ≡ self.old.slots }
-        ensures calls { CallsDoor D.faults D.trace AreMoment self.old self.new }
+        ensures calls { CallsDoor D.faults D.trace D.limit AreMoment self.old self.new }
         ensures denied { core.new.denied ≡ core.old.denied }
         ensures course { TakesMoment core.old (D.trace self.old.door.now)
             core.new (D.trace self.new.door.now) }
@@ -152,7 +153,7 @@ impl<'d, D: Door> Server<'d, D> {
     /// Accepts one peer, if one is pending. Returns whether the peer got a slot.
     fn accept_one<R: Rows>(&mut self, core: &mut Core<'_, R>) -> bool
         requires { self.old.tally.faults ≤ D.faults self.old.door.now }
-        ensures calls { CallsDoor D.faults D.trace AreAccept self.old self.new }
+        ensures calls { CallsDoor D.faults D.trace D.limit AreAccept self.old self.new }
         ensures course { AcceptsOne core.old (D.trace self.old.door.now) self.old.slots
             core.new (D.trace self.new.door.now) self.new.slots result }
     {
@@ -170,7 +171,7 @@ impl<'d, D: Door> Server<'d, D> {
     /// whether the peer got a slot.
     fn connect<R: Rows>(&mut self, core: &mut Core<'_, R>, peer: u32) -> bool
         requires { self.old.tally.faults ≤ D.faults self.old.door.now }
-        ensures calls { CallsDoor D.faults D.trace AreAboutPeers self.old self.new }
+        ensures calls { CallsDoor D.faults D.trace D.limit AreAboutPeers self.old self.new }
         ensures course { Connects core.old (D.trace self.old.door.now) self.old.slots
             core.new (D.trace self.new.door.now) self.new.slots peer result }
     {

@@ -118,6 +118,8 @@ impl<S: System> Door for SocketDoor<S> {
 
     ghost trace = { λ d. Some (calls d.sockets.system.log.steps) };
 
+    ghost limit = { λ d. d.sockets.most };
+
     fn expect(&mut self, due: Option<u64>, slack: Option<usize>)
         ensures faults { self.new.faults ≡ self.old.faults }
         ensures trace { SaysOne self.old.sockets.system.log.steps (ExpectCall due slack)

@@ -1,6 +1,6 @@
 //! Opening a door at a port of the machine itself.
 
-ghost use Rattle.std.specs.Prelude.{◌≡◌, [], IfOk};
+ghost use Rattle.std.specs.Prelude.{◌≡◌, [], IfOk, None};
 ghost use Rattle.srcp_peers.specs.Turns.{first_turn};
 ghost use Rattle.srcp_sockets.specs.Faults.{IsLocal};
 
@@ -29,6 +29,7 @@ impl<C: Clock + Drop> SocketDoor<MioSystem<C>> {
         ensures faults { IfOk result (λ door. door.faults ≡ 0) }
         ensures address { IfOk result (λ door. IsLocal door.sockets.system.system.address port) }
         ensures log { IfOk result (λ door. door.sockets.system.log.steps ≡ []) }
+        ensures limit { IfOk result (λ door. door.sockets.most ≡ None) }
         ensures moments { IfOk result (λ door. door.sockets.turn
             ≡ first_turn door.sockets.system.system.wall door.sockets.system.system.start) }
     {
@@ -48,6 +49,7 @@ fn open<N: Net, C: Clock + Drop>(
     ensures faults { IfOk result (λ door. door.faults ≡ 0) }
     ensures address { IfOk result (λ door. door.sockets.system.system.address ≡ address) }
     ensures log { IfOk result (λ door. door.sockets.system.log.steps ≡ []) }
+    ensures limit { IfOk result (λ door. door.sockets.most ≡ None) }
     ensures moments { IfOk result (λ door. door.sockets.turn
         ≡ first_turn door.sockets.system.system.wall door.sockets.system.system.start) }
 {

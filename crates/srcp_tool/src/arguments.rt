@@ -14,6 +14,9 @@ use clap::{Arg, ArgMatches, Command, Error, value_parser};
 use std::alloc::{AllocError, Global};
 use std::string::String;
 
+/// The version of what clients are told, which the welcome line has too, and that of the release.
+const VERSION: &str = "1.0 (release 1.16)";
+
 /// The help for the option `--config`.
 const CONFIG_HELP: &str = "The configuration: a TOML document with the port and the buses";
 
@@ -143,7 +146,7 @@ fn server<'a>(alloc: Global) -> Command<'a>
     ensures app { app_of result ≡ server_app }
     ensures local { (fields_of result).has_globals ≡ false }
 {
-    Command::new(alloc, "srcp_server").version("1.0").about(
+    Command::new(alloc, "srcp_server").version(VERSION).about(
         "A server for model railways that speaks SRCP 0.8. Without a command it replays.",
     )
 }

@@ -34,7 +34,7 @@ impl<'d, D: Door> Server<'d, D> {
     pub(super) fn visit<R: Rows>(&mut self, core: &mut Core<'_, R>, client: Client) -> bool
         requires { self.old.tally.faults ≤ D.faults self.old.door.now }
         ensures slots { self.new.slots ≡ self.old.slots }
-        ensures calls { CallsDoor D.faults D.trace AreAboutPeers self.old self.new }
+        ensures calls { CallsDoor D.faults D.trace D.limit AreAboutPeers self.old self.new }
         ensures course { Visits client.peer client.key core.old (D.trace self.old.door.now)
             core.new (D.trace self.new.door.now) result }
     {
@@ -49,7 +49,7 @@ impl<'d, D: Door> Server<'d, D> {
     pub(super) fn disconnect<R: Rows>(&mut self, core: &mut Core<'_, R>, client: Client)
         requires { self.old.tally.faults ≤ D.faults self.old.door.now }
         ensures slots { self.new.slots ≡ self.old.slots }
-        ensures calls { CallsDoor D.faults D.trace AreAboutPeers self.old self.new }
+        ensures calls { CallsDoor D.faults D.trace D.limit AreAboutPeers self.old self.new }
         ensures denied { core.new.denied ≡ core.old.denied }
         ensures course { Disconnects client.peer client.key core.old (D.trace self.old.door.now)
             core.new (D.trace self.new.door.now) }
@@ -62,7 +62,7 @@ impl<'d, D: Door> Server<'d, D> {
     pub(super) fn close(&mut self, peer: u32)
         requires { self.old.tally.faults ≤ D.faults self.old.door.now }
         ensures slots { self.new.slots ≡ self.old.slots }
-        ensures calls { CallsDoor D.faults D.trace AreAboutPeers self.old self.new }
+        ensures calls { CallsDoor D.faults D.trace D.limit AreAboutPeers self.old self.new }
         ensures course { Closes peer (D.trace self.old.door.now) (D.trace self.new.door.now) }
     {
         match self.door.close(peer) {
@@ -75,7 +75,7 @@ impl<'d, D: Door> Server<'d, D> {
     fn read_in<R: Rows>(&mut self, core: &mut Core<'_, R>, client: Client) -> bool
         requires { self.old.tally.faults ≤ D.faults self.old.door.now }
         ensures slots { self.new.slots ≡ self.old.slots }
-        ensures calls { CallsDoor D.faults D.trace AreAboutPeers self.old self.new }
+        ensures calls { CallsDoor D.faults D.trace D.limit AreAboutPeers self.old self.new }
         ensures course { ReadsIn client.peer client.key core.old (D.trace self.old.door.now)
             core.new (D.trace self.new.door.now) result }
     {
@@ -97,7 +97,7 @@ impl<'d, D: Door> Server<'d, D> {
     fn write_out<R: Rows>(&mut self, core: &mut Core<'_, R>, client: Client) -> bool
         requires { self.old.tally.faults ≤ D.faults self.old.door.now }
         ensures slots { self.new.slots ≡ self.old.slots }
-        ensures calls { CallsDoor D.faults D.trace AreAboutPeers self.old self.new }
+        ensures calls { CallsDoor D.faults D.trace D.limit AreAboutPeers self.old self.new }
         ensures denied { core.new.denied ≡ core.old.denied }
         ensures course { WritesOut client.peer client.key core.old (D.trace self.old.door.now)
             core.new (D.trace self.new.door.now) result }
@@ -116,7 +116,7 @@ impl<'d, D: Door> Server<'d, D> {
     fn write_once<R: Rows>(&mut self, core: &mut Core<'_, R>, client: Client) -> Wrote
         requires { self.old.tally.faults ≤ D.faults self.old.door.now }
         ensures slots { self.new.slots ≡ self.old.slots }
-        ensures calls { CallsDoor D.faults D.trace AreAboutPeers self.old self.new }
+        ensures calls { CallsDoor D.faults D.trace D.limit AreAboutPeers self.old self.new }
         ensures denied { core.new.denied ≡ core.old.denied }
         ensures course { WritesOnce client.peer client.key core.old (D.trace self.old.door.now)
             core.new (D.trace self.new.door.now) result }

@@ -19,8 +19,8 @@ ghost use Rattle.srcp_peers.specs.Steps.{Answers, Closes, GrowsBy, SaysNothing};
 use super::{MOST_PEERS, Sockets};
 use srcp_door::DoorFault;
 use srcp_peers::{
-    Answer, IoFailure, Listening, MOST_LINGERING, Peer, Queues, System, count_lingering,
-    failure_of, first_shut,
+    Answer, IoFailure, Listening, MOST_LINGERING, Peer, Queues, System, count_shut, failure_of,
+    first_shut,
 };
 use std::alloc::{AllocError, Global};
 use std::vec::Vec;
@@ -64,8 +64,8 @@ impl<S: System> Sockets<S> {
         self.accept_next(number)
     }
 
-    /// Returns whether the next pending connection may be accepted now. If too many linger, one of them is closed
-    /// first.
+    /// Returns whether the next pending connection may be accepted now. If too many linger that are owed nothing,
+    /// one of them is closed first.
     fn may_accept(&mut self) -> bool
         ensures calls { SaysNothing self.old.system.log.steps self.new.system.log.steps }
         ensures few { GrowsBy 1 self.old.system.log.steps self.new.system.log.steps }
@@ -155,12 +155,13 @@ impl<S: System> Sockets<S> {
         }
     }
 
-    /// Returns whether one that lingers has to be closed before a connection is accepted.
+    /// Returns whether one that lingers has to be closed before a connection is accepted. Who is owed something counts
+    /// only if all places are taken.
     fn is_crowded(&self) -> bool
         ensures is { result ≡ is_crowded self.now.peers.items }
         ensures place { result ≡ false → length self.now.peers.items < most_peers }
     {
-        self.peers.len() >= MOST_PEERS || count_lingering(self.peers.as_slice()) >= MOST_LINGERING
+        self.peers.len() >= MOST_PEERS || count_shut(self.peers.as_slice()) >= MOST_LINGERING
     }
 
     /// Closes the first peer that lingers and is owed nothing. If there is none, no connection is accepted until one is

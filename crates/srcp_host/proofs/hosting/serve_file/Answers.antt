@@ -2,6 +2,7 @@ use Rattle.std.proofs.Common.{◌∙◌, ap, subst}
 use Rattle.srcp_core.proofs.Agreement.CallLaws.{calls_lead}
 use Rattle.srcp_core.specs.Held.{Held}
 use Rattle.srcp_host.specs.Follows.{IsFollowed}
+use Rattle.srcp_host.specs.Hosting.{longest_of_turns}
 use Rattle.srcp_host.proofs.hosting.serve_file.Goals as goal
 
 pub returns-clause-served : goal.returns-clause-served
@@ -19,3 +20,7 @@ returns-clause-served g c =
           (served.ensures.course buses c.buses.ensures.laid_out (calls_lead.first buses c.in_ok-core.core c.in_ok-core.ensures)
           (ap (λ system. system.log.steps) c.limit_waits.ensures.system ∙ c.in_ok-door.ensures.log));
     }
+
+pub returns-clause-limit : goal.returns-clause-limit
+returns-clause-limit g c = c.serve_sockets-served.ensures.limit ∙ c.limit_waits.ensures.wait
+    ∙ ap (longest_of_turns c.args.turns) c.in_ok-door.ensures.limit

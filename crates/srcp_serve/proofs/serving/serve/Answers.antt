@@ -1,4 +1,4 @@
-use Rattle.srcp_serve.proofs.Names.{◌≡◌, ◌∙◌, arith, refl, ℕ, Held, Trace, ServesCourse, AreTurns, Asks}
+use Rattle.srcp_serve.proofs.Names.{◌≡◌, ◌∙◌, arith, refl, ℕ, Option, Held, Trace, ServesCourse, AreTurns, Asks}
 use Rattle.std.proofs.Common.{rules}
 use Rattle.srcp_serve.proofs.ServingFollows.{fewer, serves_all, serves_first, serves_on}
 use Rattle.srcp_serve.proofs.DoorIsCalled.{counts_then, none_failed, asks_then, one_more_turn, turns_none}
@@ -14,6 +14,7 @@ loop-init g c =
       course = rw (n.door, n.slots) (serves_first _ trace);
       few = omega arith;
       trace = rw n.door (turns_none trace);
+      limit = rw n.door refl;
     }
 
 pub loop-preserved : goal.loop-preserved
@@ -29,6 +30,7 @@ loop-preserved g c = record {
       (g.D.Door.trace c.turn-opens.new.self.door.now) c.loop.server.slots c.turn-opens.new.self.slots
       c.loop.invariant.course c.loop.invariant.trace c.turn-opens.ensures.calls.asks c.turn-opens.ensures.course);
   trace = asks_then one_more_turn _ _ _ c.loop.invariant.trace c.turn-opens.ensures.calls.asks;
+  limit = c.turn-opens.ensures.calls.same_limit ∙ c.loop.invariant.limit;
 }
 
 -- what is told to one value is told to the same value under another name
@@ -39,6 +41,12 @@ same_trace trace_of turns old e h = rw e h
 same_served : {D : Type 0} (trace_of : D → Trace) (turns opened : ℕ) (core new : Held) (old : Trace)
     {x y : D} → y ≡ x → ServesCourse turns opened core old new (trace_of x) → ServesCourse turns opened core old new (trace_of y)
 same_served trace_of turns opened core new old e s = rw e s
+
+same_limit : {D : Type 0} (limit_of : D → Option ℕ) (old : Option ℕ) {x y : D} → y ≡ x → limit_of x ≡ old → limit_of y ≡ old
+same_limit limit_of old e h = rw e h
+
+pub returns-clause-limit : goal.returns-clause-limit
+returns-clause-limit g c = same_limit g.D.Door.limit _ {x = c.loop.server.door.now} (search rules) c.loop.invariant.limit
 
 pub returns-clause-trace : goal.returns-clause-trace
 returns-clause-trace g c =

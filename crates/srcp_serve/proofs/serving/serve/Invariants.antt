@@ -12,4 +12,5 @@ invariant-loop g l =
       course : ServesSoFar l.counter l.opened l.fn.core (g.D.Door.trace l.fn.door) l.core trace l.server.slots;
       few : l.opened ≤ l.counter;
       trace : Asks (AreTurns l.counter) (g.D.Door.trace l.fn.door) trace;
+      limit : g.D.Door.limit l.server.door.now ≡ g.D.Door.limit l.fn.door;
     }

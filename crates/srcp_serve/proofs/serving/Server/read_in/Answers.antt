@@ -33,25 +33,29 @@ returns-in-Err-clause-course g c =
     c.in-Err.ensures.trace _ refl refl
 
 pub returns-then-not-ready-clause-calls : goal.returns-then-not-ready-clause-calls
-returns-then-not-ready-clause-calls g c = calls_none _ _ _ c.requires
+returns-then-not-ready-clause-calls g c = calls_none _ _ _ _ c.requires
 
 pub returns-in-Ok-Bytes-clause-calls : goal.returns-in-Ok-Bytes-clause-calls
 returns-in-Ok-Bytes-clause-calls g c =
-    calls_one _ _ _ c.args.self.now _ refl (none_failed _ _ _ c.requires c.in-Ok-Bytes.ensures.ok) refl
+    calls_one _ _ _ _ c.args.self.now _ refl (none_failed _ _ _ c.requires c.in-Ok-Bytes.ensures.ok) refl
     (fair_read c.args.client.peer c.read.result _ c.read.new.buf c.read.ensures.count c.read.auto.buf) c.read.ensures.trace
+    c.read.ensures.limit
 
 pub returns-in-Ok-Nothing-clause-calls : goal.returns-in-Ok-Nothing-clause-calls
 returns-in-Ok-Nothing-clause-calls g c =
-    calls_one _ _ _ c.args.self.now _ refl (none_failed _ _ _ c.requires c.in-Ok-Nothing.ensures.ok) refl
+    calls_one _ _ _ _ c.args.self.now _ refl (none_failed _ _ _ c.requires c.in-Ok-Nothing.ensures.ok) refl
     (fair_read c.args.client.peer c.read.result _ c.read.new.buf c.read.ensures.count c.read.auto.buf) c.read.ensures.trace
+    c.read.ensures.limit
 
 pub returns-in-Ok-Ended-clause-calls : goal.returns-in-Ok-Ended-clause-calls
 returns-in-Ok-Ended-clause-calls g c =
-    calls_one _ _ _ c.args.self.now _ refl (none_failed _ _ _ c.requires c.in-Ok-Ended.ensures.ok) refl
+    calls_one _ _ _ _ c.args.self.now _ refl (none_failed _ _ _ c.requires c.in-Ok-Ended.ensures.ok) refl
     (fair_read c.args.client.peer c.read.result _ c.read.new.buf c.read.ensures.count c.read.auto.buf) c.read.ensures.trace
+    c.read.ensures.limit
 
 pub returns-in-Err-clause-calls : goal.returns-in-Err-clause-calls
 returns-in-Err-clause-calls g c =
-    calls_one _ _ _ c.args.self.now _ refl
+    calls_one _ _ _ _ c.args.self.now _ refl
     (one_failed _ _ _ _ c.requires (ap (λ (t : Tally). t.faults) c.fault.ensures) c.in-Err.ensures.err) refl
     (fair_read c.args.client.peer c.read.result _ c.read.new.buf c.read.ensures.count c.read.auto.buf) c.read.ensures.trace
+    c.read.ensures.limit

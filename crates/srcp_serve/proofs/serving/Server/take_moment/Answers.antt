@@ -9,6 +9,7 @@ returns-in-Ok-clause-calls g c = record {
   same_door = refl;
   counted = none_failed _ _ _ c.requires (c.in-Ok.ensures.ok ∙ c.expect.ensures.faults);
   asks = asks_moment _ _ _ _ _ _ c.expect.ensures.trace c.now.ensures.trace;
+  same_limit = c.now.ensures.limit ∙ c.expect.ensures.limit;
 }
 
 pub returns-in-Err-clause-calls : goal.returns-in-Err-clause-calls
@@ -18,6 +19,7 @@ returns-in-Err-clause-calls g c = record {
       one_failed _ _ _ _ c.requires (ap (λ (t : Tally). t.faults) c.fault.ensures)
       (cc (c.in-Err.ensures.err, c.expect.ensures.faults));
   asks = asks_moment _ _ _ _ _ _ c.expect.ensures.trace c.now.ensures.trace;
+  same_limit = c.now.ensures.limit ∙ c.expect.ensures.limit;
 }
 
 pub returns-in-Ok-clause-course : goal.returns-in-Ok-clause-course

@@ -4,7 +4,7 @@ use Rattle.srcp_serve.proofs.serving.Server.turn.Goals as goal
 
 pub returns-clause-calls : goal.returns-clause-calls
 returns-clause-calls g c =
-    calls_then _ _ turn_goes_on _ _ _ (calls_then _ _ turn_begins _ _ _ c.take_moment.ensures.calls c.accept_one-opens.ensures.calls)
+    calls_then _ _ _ turn_goes_on _ _ _ (calls_then _ _ _ turn_begins _ _ _ c.take_moment.ensures.calls c.accept_one-opens.ensures.calls)
     c.visit_slots.ensures.calls
 
 pub returns-clause-course : goal.returns-clause-course

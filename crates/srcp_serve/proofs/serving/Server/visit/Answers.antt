@@ -7,7 +7,7 @@ use Rattle.srcp_serve.proofs.serving.Server.visit.Goals.{else-read_in-via-then-r
 use Rattle.srcp_serve.proofs.serving.Server.visit.Goals as goal
 
 pub returns-then-not-closing-clause-calls : goal.returns-then-not-closing-clause-calls
-returns-then-not-closing-clause-calls g c = calls_on _ _ _ _ _ c.read_in.ensures.calls c.write_out.ensures.calls
+returns-then-not-closing-clause-calls g c = calls_on _ _ _ _ _ _ c.read_in.ensures.calls c.write_out.ensures.calls
 
 pub returns-then-not-closing-clause-course : goal.returns-then-not-closing-clause-course
 returns-then-not-closing-clause-course g c =
@@ -23,16 +23,16 @@ returns-then-not-closing-clause-course g c =
 
 pub returns-clause-calls : goal.returns-clause-calls
 returns-clause-calls g c =
-    let first : CallsDoor g.D.Door.faults g.D.Door.trace AreAboutPeers c.args.self.now c.else-read_in.self =
+    let first : CallsDoor g.D.Door.faults g.D.Door.trace g.D.Door.limit AreAboutPeers c.args.self.now c.else-read_in.self =
     elim c.else-read_in.branch [
       | else-read_in-via-then-read_in+then-write_out+else-not-closing w ↦
-          rw w.self-is (calls_on _ _ _ _ _ c.read_in.ensures.calls w.write_out.ensures.calls)
+          rw w.self-is (calls_on _ _ _ _ _ _ c.read_in.ensures.calls w.write_out.ensures.calls)
       | else-read_in-via-then-read_in+else-write_out w ↦
-          rw w.self-is (calls_on _ _ _ _ _ c.read_in.ensures.calls w.write_out.ensures.calls)
+          rw w.self-is (calls_on _ _ _ _ _ _ c.read_in.ensures.calls w.write_out.ensures.calls)
       | else-read_in-via-else-read_in w ↦
           rw w.self-is c.read_in.ensures.calls
     ] in
-    calls_on _ _ _ _ _ first c.disconnect.ensures.calls
+    calls_on _ _ _ _ _ _ first c.disconnect.ensures.calls
 
 pub returns-clause-course : goal.returns-clause-course
 returns-clause-course g c =

@@ -8,7 +8,7 @@ loop-slot-init g c = record {
   long = c.end-end.ensures.all;
   free = c.end-end.ensures.free;
   most = c.end-end.ensures.most;
-  calls = calls_none _ _ _ c.requires;
+  calls = calls_none _ _ _ _ c.requires;
   course = slots_first _ _ _;
 }
 
@@ -19,7 +19,7 @@ loop-slot-preserved g c = record {
   free = still_free c.end-end.result c.loop-slot.slot c.loop-slot.self.slots c.visit_slot.new.self.slots c.visit_slot.ensures.slots
       c.loop-slot.invariant.free;
   most = c.loop-slot.invariant.most;
-  calls = calls_on _ _ _ _ _ c.loop-slot.invariant.calls c.visit_slot.ensures.calls;
+  calls = calls_on _ _ _ _ _ _ c.loop-slot.invariant.calls c.visit_slot.ensures.calls;
   course = slots_on c.loop-slot.slot c.args.core.now c.loop-slot.core c.visit_slot.new.core (g.D.Door.trace c.args.self.now.door.now)
       (g.D.Door.trace c.loop-slot.self.door.now)
       (g.D.Door.trace c.visit_slot.new.self.door.now) c.args.self.now.slots c.loop-slot.self.slots

@@ -8,7 +8,7 @@ invariant-loop-slot g l = record {
   long : length l.self.slots ≡ 64;
   free : AreFreeFrom l.end l.self.slots;
   most : l.end ≤ 64;
-  calls : CallsDoor g.D.Door.faults g.D.Door.trace AreAboutPeers l.fn.self l.self;
+  calls : CallsDoor g.D.Door.faults g.D.Door.trace g.D.Door.limit AreAboutPeers l.fn.self l.self;
   course : VisitsSoFar l.slot l.fn.core (g.D.Door.trace l.fn.self.door.now) l.fn.self.slots l.core
       (g.D.Door.trace l.self.door.now) l.self.slots;
 }

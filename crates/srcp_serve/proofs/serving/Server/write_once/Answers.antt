@@ -37,23 +37,26 @@ returns-in_default-write-clause-course g c =
     (sym c.is_empty.ensures ∙ c.if-is_empty.false)
 
 pub returns-in_default-clause-calls : goal.returns-in_default-clause-calls
-returns-in_default-clause-calls g c = calls_none _ _ _ c.requires
+returns-in_default-clause-calls g c = calls_none _ _ _ _ c.requires
 
 pub returns-then-is_empty-clause-calls : goal.returns-then-is_empty-clause-calls
-returns-then-is_empty-clause-calls g c = calls_none _ _ _ c.requires
+returns-then-is_empty-clause-calls g c = calls_none _ _ _ _ c.requires
 
 pub returns-then-count-handed-clause-calls : goal.returns-then-count-handed-clause-calls
 returns-then-count-handed-clause-calls g c =
-    calls_one _ _ _ c.args.self.now _ refl (none_failed _ _ _ c.requires c.in-Ok-write.ensures.ok) refl
+    calls_one _ _ _ _ c.args.self.now _ refl (none_failed _ _ _ c.requires c.in-Ok-write.ensures.ok) refl
     (fair_write c.args.client.peer c.in-Ok.lent.now c.write.result c.write.ensures.count) c.write.ensures.trace
+    c.write.ensures.limit
 
 pub returns-else-count-handed-clause-calls : goal.returns-else-count-handed-clause-calls
 returns-else-count-handed-clause-calls g c =
-    calls_one _ _ _ c.args.self.now _ refl (none_failed _ _ _ c.requires c.in-Ok-write.ensures.ok) refl
+    calls_one _ _ _ _ c.args.self.now _ refl (none_failed _ _ _ c.requires c.in-Ok-write.ensures.ok) refl
     (fair_write c.args.client.peer c.in-Ok.lent.now c.write.result c.write.ensures.count) c.write.ensures.trace
+    c.write.ensures.limit
 
 pub returns-in_default-write-clause-calls : goal.returns-in_default-write-clause-calls
 returns-in_default-write-clause-calls g c =
-    calls_one _ _ _ c.args.self.now _ refl
+    calls_one _ _ _ _ c.args.self.now _ refl
     (one_failed _ _ _ _ c.requires (ap (λ (t : Tally). t.faults) c.fault.ensures) c.in_default-write.ensures.err) refl
     (fair_write c.args.client.peer c.in-Ok.lent.now c.write.result c.write.ensures.count) c.write.ensures.trace
+    c.write.ensures.limit

@@ -6,7 +6,7 @@ use Rattle.srcp_serve.proofs.serving.Server.write_out.Goals as goal
 pub loop-init : goal.loop-init
 loop-init g c = record {
   slots = refl;
-  calls = calls_none _ _ _ c.requires;
+  calls = calls_none _ _ _ _ c.requires;
   denied = refl;
   course = takes_first _ _ _ _;
 }
@@ -14,7 +14,7 @@ loop-init g c = record {
 pub loop-preserved : goal.loop-preserved
 loop-preserved g c = record {
   slots = c.write_once.ensures.slots ∙ c.loop.invariant.slots;
-  calls = calls_on _ _ _ _ _ c.loop.invariant.calls c.write_once.ensures.calls;
+  calls = calls_on _ _ _ _ _ _ c.loop.invariant.calls c.write_once.ensures.calls;
   denied = c.write_once.ensures.denied ∙ c.loop.invariant.denied;
   course =
       takes_on c.args.client.peer c.args.client.key c.args.core.now c.loop.core c.write_once.new.core
@@ -25,7 +25,7 @@ loop-preserved g c = record {
 }
 
 pub returns-in-Less-clause-calls : goal.returns-in-Less-clause-calls
-returns-in-Less-clause-calls g c = calls_on _ _ _ _ _ c.loop.invariant.calls c.write_once.ensures.calls
+returns-in-Less-clause-calls g c = calls_on _ _ _ _ _ _ c.loop.invariant.calls c.write_once.ensures.calls
 
 pub returns-in-Less-clause-course : goal.returns-in-Less-clause-course
 returns-in-Less-clause-course g c =
@@ -34,7 +34,7 @@ returns-in-Less-clause-course g c =
     c.in-Less.ensures.course
 
 pub returns-in-Failed-clause-calls : goal.returns-in-Failed-clause-calls
-returns-in-Failed-clause-calls g c = calls_on _ _ _ _ _ c.loop.invariant.calls c.write_once.ensures.calls
+returns-in-Failed-clause-calls g c = calls_on _ _ _ _ _ _ c.loop.invariant.calls c.write_once.ensures.calls
 
 pub returns-in-Failed-clause-course : goal.returns-in-Failed-clause-course
 returns-in-Failed-clause-course g c =

@@ -6,7 +6,7 @@ use Rattle.srcp_serve.proofs.serving.Server.write_out.Given as goal
 abbrev pub invariant-loop : goal.invariant-loop
 invariant-loop g l = record {
   slots : l.self.slots ≡ l.fn.self.slots;
-  calls : CallsDoor g.D.Door.faults g.D.Door.trace AreAboutPeers l.fn.self l.self;
+  calls : CallsDoor g.D.Door.faults g.D.Door.trace g.D.Door.limit AreAboutPeers l.fn.self l.self;
   denied : l.core.denied ≡ l.fn.core.denied;
   course : TakesSoFar l.client.peer l.client.key l.fn.core (g.D.Door.trace l.fn.self.door.now) l.core
       (g.D.Door.trace l.self.door.now) l.counter;
