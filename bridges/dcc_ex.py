@@ -176,7 +176,7 @@ class DccEx(Confirmed):
     def take_kept(self, address: int, drives: tuple[int, int], functions: int) -> None:
         """Takes what a station has kept, of before this driver, or as the line lost its stops: a locomotive that drives
         is told to stand, and functions are put as the registry has them."""
-        kept = {("cab", address): drives} if drives[0] > 0 else {}
+        kept: dict[Part, Value] = {("cab", address): drives} if drives[0] > 0 else {}
         kept |= {("function", address, number): 1 for number in range(FUNCTIONS) if functions >> number & 1}
         for part, value in kept.items():
             if part not in self.track.told:

@@ -251,7 +251,7 @@ def package_suggests_what_its_programs_can_use(_: str) -> str | None:
 
 def version_of_these_sources() -> str:
     """What the program says to `--version`: the version of the welcome line, and the newest of the changes."""
-    newest = re.search(r"^## (.*)$", (TOP / "CHANGELOG.md").read_text(), re.M)[1]
+    newest, *_ = re.findall(r"^## (.*)$", (TOP / "CHANGELOG.md").read_text(), re.M)
     return f"{WELCOME.decode().partition(';')[0]} (release {newest})\n"
 
 
