@@ -12,7 +12,6 @@ it on, and a locomotive stands until somebody commands it anew. Decoders of the 
 import argparse
 import asyncio
 from collections import defaultdict, deque
-from typing import Any
 
 from srcp_bridges.program import run, say
 from srcp_bridges.rows import STOP_ALL
@@ -57,7 +56,7 @@ class Z21(Confirmed):
         self.pulses: dict[int, int] = {}  # turnouts of which an output is to go off, and that output
         self.on: set[int] = set()  # turnouts of which an output is on: what is reported of one says that it is off
         self.looks = 0
-        self.drives: defaultdict[tuple, deque] = defaultdict(deque)  # what it was told of each cab that drives, and when
+        self.drives: defaultdict[Part, deque] = defaultdict(deque)  # what each cab that drives was told, and when
 
     async def connect(self) -> Datagrams:
         return await Datagrams.open(self.where)

@@ -315,5 +315,5 @@ def clients_at_64_places(program):
 
 LINGERING_CASES = (urgent_data_stalls_nobody, pulse_sent_to_a_server_that_stood_still, fall_after_a_long_wait,
                    leaver_that_reads_late, half_closed_session_that_does_not_read,
-                   clients_that_are_turned_away_and_stay, newcomer_beside_64_that_ended_and_are_owed, clients_that_are_turned_away_and_send,
-                   end_of_a_session_with_much_behind_it, clients_at_64_places)
+                   clients_that_are_turned_away_and_stay, newcomer_beside_64_that_ended_and_are_owed,
+                   clients_that_are_turned_away_and_send, end_of_a_session_with_much_behind_it, clients_at_64_places)

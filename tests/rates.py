@@ -249,4 +249,5 @@ def falls_heard(panel, most):
 RATE_CASES = (panel_that_reads_a_little_faster_than_a_line_a_millisecond,
               panel_that_reads_a_little_faster_than_a_change_a_millisecond,
               panel_that_reads_slower_than_a_line_a_millisecond, panel_whose_socket_takes_nothing_more,
-              emergency_stop_goes_first, changes_reach_a_panel_that_acknowledges_late, changes_at_one_moment_beside_many, falls_at_a_server_that_stood_still)
+              emergency_stop_goes_first, changes_reach_a_panel_that_acknowledges_late,
+              changes_at_one_moment_beside_many, falls_at_a_server_that_stood_still)

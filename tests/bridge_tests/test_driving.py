@@ -11,8 +11,8 @@ class Driving(Case):
     program = "driving"
 
     def after(self, act: Callable[..., Awaitable[object]], before="", behind="", first="") -> list[str]:
-        """The row of locomotive 3 once that was done by a mirror. Another throttle commands something `first`, something
-        just before the first SET of it is sent, and something just behind its reply."""
+        """The row of locomotive 3 once that was done by a mirror. Another throttle commands something `first`,
+        something just before the first SET of it is sent, and something just behind its reply."""
         from srcp_bridges import srcp
         self.throttle.order("INIT 1 GL 3 N 1 126 2", "SET 1 GL 3 1 60 126 0 0", *filter(None, [first]))
         asks = srcp.Session.ask

@@ -82,7 +82,7 @@ IsClocked turn answer old new = (shown : Option ℕ) × (answer ≡ moment_of tu
 
 -- ---- who is accepted
 
--- one that lingers has to be closed first: there is no place for one more, or as many linger as may that are owed nothing
+-- one that lingers has to be closed first: there is no place for one more, or as many as may linger are owed nothing
 abbrev pub is_crowded : List Peer → Bool
 is_crowded peers = nat_le most_peers (length peers)
     || nat_le most_lingering (length (filter (λ peer. is_shut peer.stay) peers))

@@ -123,7 +123,12 @@ counts_then a b c d e f first second = record {
 module _ {D : Type 0} (faults : D → ℕ) (trace : D → Trace) (limit : D → Option ℕ) where
   -- no call
   pub calls_none : (s : Server D) → s.tally.faults ≤ faults s.door.now → CallsDoor faults trace limit AreAboutPeers s s
-  calls_none s counted = record { same_door = refl; counted = none_failed _ _ _ counted refl; asks = asks_none (trace s.door.now); same_limit = refl }
+  calls_none s counted = record {
+    same_door = refl;
+    counted = none_failed _ _ _ counted refl;
+    asks = asks_none (trace s.door.now);
+    same_limit = refl;
+  }
 
   -- one call, about a peer
   pub calls_one : (call : Call) (s t : Server D) → t.door.ghost_name ≡ s.door.ghost_name

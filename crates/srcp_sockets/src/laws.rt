@@ -137,9 +137,9 @@ pub fn accepts_are_true<S: System>(door: &SocketDoor<S>)
 
 /// States what is true if the door answered `accept` by nobody. The door had asked the system since the last answer of
 /// `accept`, or the listener (socket 0) was found quiet, or there was no place. No place means that at least 128
-/// accepted sockets are not closed, or 63 linger and are owed nothing. With one more there is no place, and one may have
-/// been closed just now to make a place. If the door answered by a fault, it had asked the system since then, or the
-/// numbers ran out: as many peers had come as there are numbers.
+/// accepted sockets are not closed, or 63 linger and are owed nothing. With one more there is no place, and one may
+/// have been closed just now to make a place. If the door answered by a fault, it had asked the system since then, or
+/// the numbers ran out: as many peers had come as there are numbers.
 pub fn accepts_are_asked<S: System>(door: &SocketDoor<S>)
     ensures { AreAsked door.now.sockets.system.log.steps }
 {}
