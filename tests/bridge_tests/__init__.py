@@ -105,5 +105,5 @@ BRIDGE_CASES = cases_of(Readme, Following, MqttWithAWrongBroker, Stopping, Mqtt,
                         DccEx52, Z21WithDoubles, DccExStopAll, Z21StopAll, DccExLastWords, Z21LastWords, Speaking,
                         OfStopAll, Ends, DriverThatEnds, ServerThatIsLeft, WebOfOtherFiles, WebThatIsUpgraded, Driving,
                         WebWithoutAScript, WebWithForms, Z21WithShuffles, DccExTelling, Z21Telling, OfAwaited,
-                        Elsewhere, WebWithADriverThatSleeps, DccEx5, DccExAtAMega, DccExWithLostCommands, DccExWithTurnedBits,
-                        Z21Start)
+                        Elsewhere, WebWithADriverThatSleeps, DccEx5, DccExAtAMega, DccExWithLostCommands,
+                        DccExWithTurnedBits, Z21Start)
