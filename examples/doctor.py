@@ -12,11 +12,10 @@ import subprocess
 import time
 from contextlib import closing
 from pathlib import Path
-from typing import Any
 
 from panel import add_version, tell
 from srcp_client import Full, Refused, Session
-from status import names, programs, snapshot
+from status import Told, names, programs, snapshot
 
 TOP = 126  # steps of a station
 TOPS = {"z21.py": (14, 28, TOP)}  # of one that has several: a locomotive drives in the first that has all of its steps
@@ -68,7 +67,7 @@ class Chain:
         self.names = names(self.at[1])
         self.drivers = [told for told in programs() if told["station"].get("bus") == self.bus]
         here = [told for told in self.drivers if told["station"]["here"]]
-        self.driving: dict[str, Any] | None = (here or self.drivers or [None])[0]
+        self.driving: Told | None = next(iter(here or self.drivers), None)
 
     def look_at_rows(self) -> bool:
         """Takes in what the server has; returns whether it had a place for that."""

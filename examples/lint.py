@@ -6,8 +6,10 @@ import json
 import re
 import socket
 import sys
+from collections.abc import Iterable, Sequence
 from dataclasses import dataclass
 from difflib import get_close_matches
+from typing import Any
 
 if sys.version_info < (3, 11):
     sys.exit("this takes Python 3.11 or later")
@@ -27,8 +29,9 @@ NUMBERS = {
 }
 UNLESS_GIVEN = {"port": 4303, "ga_ports": 2}
 # The keys that each group asks for.
-GROUPS = {"POWER": [], "GL": ["gl_max"], "GA": ["ga_max", "ga_ports"], "FB": ["fb_ports"]}
+GROUPS: dict[str, list[str]] = {"POWER": [], "GL": ["gl_max"], "GA": ["ga_max", "ga_ports"], "FB": ["fb_ports"]}
 NUMBERS_OF_TOML = range(-1 << 63, 1 << 63)
+Table = dict[str, Any]  # of TOML: each value may be of any kind
 
 
 @dataclass
@@ -39,12 +42,12 @@ class Fault:
     more: str = ""
 
 
-def hint(word, known):
+def hint(word: str, known: Iterable[str]) -> str:
     """Returns what was meant by a word that is not known, if one is near."""
     return "".join(f": did you mean {near}?" for near in get_close_matches(word, known, 1))
 
 
-def fault_of_key(table, key):
+def fault_of_key(table: Table, key: str) -> Fault | None:
     """Returns the fault of a key of a table, or None."""
     value = table.get(key, UNLESS_GIVEN.get(key))
     if value is None:
@@ -60,19 +63,19 @@ def fault_of_key(table, key):
     return Fault(key, f"{key} out of range", f": not an array{meant}")
 
 
-def faults_of_keys(table, *keys):
+def faults_of_keys(table: Table, *keys: str) -> list[Fault]:
     """Returns the faults of these keys of a table."""
     return [fault for key in keys if (fault := fault_of_key(table, key))]
 
 
-def unread(table, *keys):
+def unread(table: Table, *keys: str) -> list[Fault]:
     """Returns the keys of a table that the server does not read: `check` says nothing of them. One that is there
     already was not meant."""
     absent = [key for key in keys if key not in table]
     return [Fault(key, "", f"{key} is not read{hint(key, absent)}") for key in table if key not in keys]
 
 
-def fault_of_group(group):
+def fault_of_group(group: object) -> Fault | None:
     """Returns the fault of an item of `groups`, or None."""
     if group in list(GROUPS):
         return None
@@ -81,12 +84,12 @@ def fault_of_group(group):
     return Fault("groups", "groups out of range", f": {group!r}")
 
 
-def is_twice(bus, earlier):
+def is_twice(bus: Table, earlier: Iterable[object]) -> bool:
     """Returns whether an earlier bus has the number of this one."""
     return any(isinstance(other, dict) and other.get("number", 0) == bus.get("number") for other in earlier)
 
 
-def faults_of_bus(bus, earlier):
+def faults_of_bus(bus: object, earlier: Iterable[object]) -> list[Fault]:
     """Returns the faults of a bus in the order of `check`, and the keys of it that are not read."""
     if not isinstance(bus, dict):
         return [Fault("bus", "bus out of range", ": not a table")]
@@ -100,7 +103,7 @@ def faults_of_bus(bus, earlier):
     return faults + faults_of_keys(bus, *limits) + unread(bus, "number", "groups", *limits)
 
 
-def line_of(lines, place, key):
+def line_of(lines: Sequence[str], place: int, key: str) -> int:
     """Returns the line of a key of the document (place 0) or of a bus; that of the bus, if it finds no such key."""
     heads = [at for at, line in enumerate(lines) if re.match(r"\s*\[\[\s*bus\s*\]\]", line)]
     bounds = [0, *heads, len(lines)]
@@ -112,7 +115,7 @@ def line_of(lines, place, key):
     return next(found, first) + 1
 
 
-def fault_of_port(port):
+def fault_of_port(port: Any) -> Exception | None:
     """Returns why a server cannot have the port, or None. If a server has it, that is started anew with this file."""
     try:
         socket.create_server(("127.0.0.1", port)).close()
@@ -126,7 +129,7 @@ def fault_of_port(port):
         return why
 
 
-def parsed(content):
+def parsed(content: str) -> Table:
     """Returns the document. ValueError if it is no TOML, or has a number of more than 64 bits."""
     if found := re.search("[\udc80-\udcff]", content):  # a byte that is no text
         before = content[:found.start()]
@@ -137,17 +140,17 @@ def parsed(content):
     return document
 
 
-def place_names(buses):
+def place_names(buses: Iterable[object]) -> list[str]:
     """Returns what stands behind the line of a fault, for the document and for each bus."""
     return ["", *(f", bus {bus.get('number')}" if isinstance(bus, dict) else "" for bus in buses)]
 
 
-def lint(content):
+def lint(content: str) -> str | None:
     """Prints the faults of a document. Returns what `check` says of it, or None if that accepts it."""
     try:
         document = parsed(content)
     except ValueError as met:
-        tell(met)
+        tell(str(met))
         return "not TOML"
     buses = document["bus"] if isinstance(document.get("bus"), list) else []
     faults = [(0, fault) for fault in faults_of_keys(document, "port", "bus") + unread(document, "port", "bus")]
@@ -162,7 +165,7 @@ def lint(content):
     return next((fault.said for _, fault in faults if fault.said), None)
 
 
-def main():
+def main() -> int:
     words = argparse.ArgumentParser(description="Tells all faults of a configuration at once.")
     add_version(words)
     words.add_argument("file", type=argparse.FileType("rb"))

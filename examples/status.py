@@ -9,13 +9,16 @@ import json
 import os
 import socket
 import sys
+from collections.abc import Iterator, Mapping
 from contextlib import closing, suppress
 from pathlib import Path
+from typing import Any
 
 from panel import add_version, tell
 from srcp_client import Closed, Full, Rows, Session, apply
 
 COUNTED = {"GL": "locomotives", "GA": "turnouts", "FB": "sensors"}
+Told = dict[str, Any]  # what a program tells of itself, as JSON
 
 
 def snapshot(host: str, port: int, seconds: float) -> tuple[int, Rows]:
@@ -28,7 +31,7 @@ def snapshot(host: str, port: int, seconds: float) -> tuple[int, Rows]:
     return session.id, rows
 
 
-def programs():
+def programs() -> Iterator[Told]:
     """Yields what each program of bridges/ on this machine tells of itself (bridges/srcp_bridges/state.py), and its
     process as `pid`."""
     own = Path(os.environ.get("XDG_RUNTIME_DIR") or Path.home() / ".local" / "state", "srcp_bridges")
@@ -40,12 +43,12 @@ def programs():
             pass  # it ended meanwhile, or belongs to somebody else
 
 
-def names(port):
+def names(port: int) -> dict[str, str]:
     """Returns whose sessions are, by their ids, as far as programs of this machine tell."""
     return {session: name for told in programs() for session, name in told["sessions"].get(str(port), {}).items()}
 
 
-def summary(rows, own, names):
+def summary(rows: Rows, own: str, names: Mapping[str, str]) -> Iterator[str]:
     """Yields what there is to tell of the rows; the session `own` asks, and does not count."""
     told = {device: line.split(" ") for (device, _, _), line in rows.items()}
     sessions = [f"{device[2]} {words[-1]}" + f" ({names.get(device[2])})" * (device[2] in names)

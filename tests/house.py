@@ -12,6 +12,7 @@ from serving import TriedNothing
 
 TOP = Path(__file__).resolve().parent.parent
 PYTHON_FOLDERS = ("bridges", "examples", "packaging", "tests", "tools")
+UNTYPED = {"packaging", "tests"}  # of these, folders in which a function may have no types
 # Folders that are made, and those whose files have the bytes that a case or an edit wants.
 LEFT_OUT = {".git", "out", "__pycache__", ".mypy_cache", "cases", "must-fail", "refused", "laws-refuse"}
 NO_TEXT = {".png", ".deb", ".ico"}
@@ -105,7 +106,8 @@ def python_is_checked(_):
         words = ["mypy", "--config-file", TOP / "pyproject.toml", "--cache-dir", cache_of_mypy, "--no-error-summary",
                  "."]
         for folder in folders:
-            done = subprocess.run(words, cwd=folder, capture_output=True, text=True, timeout=10 * MINUTES)
+            less = ["--allow-untyped-defs", "--no-check-untyped-defs"] if folder.name in UNTYPED else []
+            done = subprocess.run(words + less, cwd=folder, capture_output=True, text=True, timeout=10 * MINUTES)
             told += "".join(line for line in done.stdout.splitlines(keepends=True) if ": note: " not in line)
     return told[:600] or None
 

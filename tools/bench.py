@@ -25,9 +25,10 @@ import sys
 import tempfile
 import threading
 import time
+from collections.abc import Callable, Iterable
 from pathlib import Path
 
-from loads import (ACCESSORIES, FULL_BUS, LINES, LOCOMOTIVES, MOMENTS, devices, drain, driven,
+from loads import (ACCESSORIES, FULL_BUS, LINES, LOCOMOTIVES, MOMENTS, Replay, devices, drain, driven,
                    falling_ports, listed, measured, pipelined, processor_seconds, replayed, replays, states,
                    states_by_falling_key, stream)
 
@@ -41,7 +42,7 @@ IDLE_SECONDS = 5
 COMMANDS = 64_000
 
 
-def idle_server(program, locomotives):
+def idle_server(program: str, locomotives: int) -> None:
     with served(program) as (port, server):
         clients = [Client(port, "COMMAND") for _ in range(63)]
         for address in range(1, locomotives + 1):
@@ -62,7 +63,7 @@ def idle_server(program, locomotives):
               f"a command is answered in {statistics.median(took):.2f} ms (median), {max(took):.2f} ms (most)")
 
 
-def switch_off(program):
+def switch_off(program: str) -> None:
     with served(program) as (port, _):
         throttle, panel = Client(port, "COMMAND"), Client(port, "INFO")
         throttle.asks("INIT 1 GA 5 N")
@@ -77,14 +78,14 @@ def switch_off(program):
               f"{max(late):.2f} ms (most)")
 
 
-def throughput(program, throttles, panels):
+def throughput(program: str, throttles: int, panels: int) -> None:
     """All throttles send at once; each SET is a line for each panel."""
     with served(program) as (port, server):
         senders = [Client(port, "COMMAND") for _ in range(throttles)]
         senders[0].asks("INIT 1 GL 3 N 1 28 18")
         listeners = [Client(port, "INFO") for _ in range(panels)]
         stop = threading.Event()
-        counted = []
+        counted: list[int] = []
         share = COMMANDS // throttles
         drains = [threading.Thread(target=drain, args=(client, stop, counted)) for client in listeners]
         streams = [threading.Thread(target=stream, args=(client, share)) for client in senders]
@@ -105,7 +106,7 @@ def throughput(program, throttles, panels):
               + (f", {spent / lines * 1e6:.3f} us a line" if lines else ""))
 
 
-def write_costs():
+def write_costs() -> None:
     """The processor time of writing such lines in pieces of 16 KB to a peer of this machine that reads."""
     listener = socket.create_server(("127.0.0.1", 0))
     near = socket.create_connection(listener.getsockname())
@@ -123,7 +124,7 @@ def write_costs():
     print(f"writing such lines in pieces of 16 KB alone: {spent / (pieces * piece.count(line)) * 1e6:.3f} us a line")
 
 
-def serve(program: str):
+def serve(program: str) -> None:
     idle_server(program, 0)
     idle_server(program, 10_000)
     switch_off(program)
@@ -154,7 +155,7 @@ def waits_beside(port: int, panel: Client) -> tuple[dict[str, list[float]], floa
     return waits, closed
 
 
-def panel_that_stops(program: str):
+def panel_that_stops(program: str) -> None:
     with served(program) as (port, _):
         panel, throttle = Client(port, "INFO", receives=4096), Client(port, "COMMAND")
         threads = [threading.Thread(target=changes_without_end, args=(throttle,)),
@@ -173,7 +174,7 @@ def panel_that_stops(program: str):
               f"at most {of_name[-1] * 1e3:.2f} ms, of {len(of_name):,}", flush=True)
 
 
-def fall(program: str, seconds: int):
+def fall(program: str, seconds: int) -> None:
     with served(program) as (port, _):
         throttle, panel = Client(port, "COMMAND"), Client(port, "INFO")
         throttle.asks("INIT 1 GA 5 N")
@@ -186,7 +187,7 @@ def fall(program: str, seconds: int):
     print(f"a pulse of {seconds} s ends {late * 1e3:.1f} ms late", flush=True)
 
 
-def latency(program: str, seconds: int = 60):
+def latency(program: str, seconds: int = 60) -> None:
     panel_that_stops(program)
     fall(program, seconds)
 
@@ -219,7 +220,7 @@ def pulse_seconds(program: str, accessories: int, locks: int) -> float:
         return (after - before - waiting) / PULSES
 
 
-def pulses(program: str):
+def pulses(program: str) -> None:
     few, many = pulse_seconds(program, *FEW), pulse_seconds(program, *MANY)
     for (accessories, locks), seconds in ((FEW, few), (MANY, many)):
         print(f"a pulse beside {accessories:,} accessories of 8 ports and {locks:,} locks: "
@@ -237,7 +238,7 @@ def waits_until_gone(asker: Client, session: int) -> list[float]:
     return waits
 
 
-def session_end(program: str, locks: int):
+def session_end(program: str, locks: int) -> None:
     with served(program) as (port, server):
         asker, before_it, holder = (Client(port, "COMMAND") for _ in range(3))
         pipelined(asker, [b"INIT 1 GL %d N 1 28 0\n" % address for address in range(1, 2 * locks + 1)])
@@ -254,7 +255,7 @@ def session_end(program: str, locks: int):
               f"one waits {max(waits) * 1e3:,.1f} ms at most")
 
 
-def stalls(program: str, locks: int = 5_000):
+def stalls(program: str, locks: int = 5_000) -> None:
     pulses(program)
     session_end(program, locks)
 
@@ -264,7 +265,7 @@ def stalls(program: str, locks: int = 5_000):
 LIMIT = 16_777_216
 
 
-def folded(program, told, given):
+def folded(program: str, told: str, given: Iterable[bytes]) -> None:
     """Prints what it takes to fold these lines; `told` says what they are."""
     with tempfile.NamedTemporaryFile() as file:
         file.writelines(given)
@@ -275,7 +276,7 @@ def folded(program, told, given):
     print(f"{told.format(size=size)}: {seconds:.2f} s, {size / seconds / 1e6:.1f} MB/s, peak {peak} KiB")
 
 
-def mirror(program: str, rows: int = 0):
+def mirror(program: str, rows: int = 0) -> None:
     if rows:
         folded(program, f"{rows} lines, {{size}} bytes, {rows} rows by falling key", states_by_falling_key(rows))
         return
@@ -288,7 +289,7 @@ def mirror(program: str, rows: int = 0):
 ROWS = {b"GL": 2, b"GA": 3}
 
 
-def of_devices(replay, count):
+def of_devices(replay: Replay, count: int) -> None:
     """Prints what so many devices cost. It fails if a reply is none of acceptance, or a row is not listed."""
     driving, record = replayed(replay, list(driven(count)))
     accepted = len(re.findall(rb"^\d+\.\d{3} 200 OK\n", record, re.M))
@@ -307,14 +308,15 @@ def of_devices(replay, count):
           f"{count:,} locks gone in {max(ending - driving, 0):.2f} s", flush=True)
 
 
-def registry(program: str):
+def registry(program: str) -> None:
     with replays(program, FULL_BUS) as replay:
         for count in (1_000, 10_000, LOCOMOTIVES + ACCESSORIES):
             of_devices(replay, count)
 
 
-def main():
-    benches = {bench.__name__: bench for bench in (serve, latency, stalls, mirror, registry, bridges)}
+def main() -> None:
+    benches: dict[str, Callable[..., None]] = {"serve": serve, "latency": latency, "stalls": stalls, "mirror": mirror,
+                                               "registry": registry, "bridges": bridges}
     if len(sys.argv) < 3 or sys.argv[1] not in benches:
         sys.exit(__doc__)
     benches[sys.argv[1]](str(Path(sys.argv[2]).resolve()), *map(int, sys.argv[3:]))

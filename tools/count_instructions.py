@@ -12,6 +12,7 @@ import sys
 import tempfile
 import threading
 import time
+from collections.abc import Callable, Iterator
 from contextlib import contextmanager
 from functools import cache
 from pathlib import Path
@@ -36,7 +37,7 @@ def collected(errors: bytes) -> int:
 
 
 @contextmanager
-def counted_server(program: str):
+def counted_server(program: str) -> Iterator[tuple[int, subprocess.Popen[bytes], list[int]]]:
     """A server under callgrind: its port, its process, and a list that holds the count of its instructions in the
     end."""
     with tempfile.TemporaryDirectory() as folder:
@@ -50,12 +51,12 @@ def counted_server(program: str):
             count.append(collected(server.communicate()[1]))
 
 
-def count_from_now(server: subprocess.Popen):
+def count_from_now(server: subprocess.Popen[bytes]) -> None:
     """Drops the count of what a server did so far."""
     subprocess.run(["callgrind_control", "--zero", str(server.pid)], check=True, capture_output=True)
 
 
-def wait_for_lines(counted: list, wanted: int):
+def wait_for_lines(counted: list[int], wanted: int) -> None:
     """Waits until `wanted` lines were read, or none comes for a while."""
     had, end = 0, time.monotonic() + SECONDS_WITHOUT_A_LINE
     while (now := sum(counted)) < wanted:
@@ -120,12 +121,12 @@ def replaying(program: str, events: int) -> int:
     return collected(done.stderr)
 
 
-def main():
+def main() -> None:
     program = str(Path(sys.argv[1]).resolve())
     short, long = (int(sys.argv[2]), int(sys.argv[3])) if len(sys.argv) > 3 else (2_000, 4_000)
     units = long - short
 
-    def grown(load, *fixed):
+    def grown(load: Callable[..., int], *fixed: int) -> int:
         return load(program, *fixed, long) - load(program, *fixed, short)
 
     alone = grown(commanding, 0)

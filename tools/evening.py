@@ -15,13 +15,15 @@ import sys
 import threading
 import time
 from collections import Counter
+from collections.abc import Callable, Iterator, Mapping
 from functools import partial
 from pathlib import Path
 
 from bridge_tests import common, test_mqtt, test_web, test_withrottle
-from bridge_tests.common import stamped_lines, until
+from bridge_tests.common import Process, stamped_lines, until
 from delays import Delays
 from rails import ALL, LOSSES, POWER, REST, SPEED, Rails
+from srcp_bridges.rows import FORWARD, Key, Row, Rows, parse, position
 from wifi import WiFi
 
 LAYOUT = "port = {port}\n" + "".join(
@@ -48,49 +50,52 @@ class Evening:
     While `playing` is cleared they change nothing.
     """
 
-    def __init__(self, program, seed):
+    def __init__(self, program: str, seed: int):
         common.SERVER, self.seed, self.draw = program, seed, random.Random(seed)
         self.began = time.monotonic()
         self.server, self.broker = common.Server(LAYOUT), test_mqtt.Broker()
         folder = common.new_folder()
         self.file = os.path.join(folder, "layout.srcp")
         self.web, self.phones = common.free_port(), common.free_port()
-        self.wifi, self.taken = WiFi(self.phones), set()
+        self.wifi = WiFi(self.phones)
+        self.taken: set[int] = set()  # by the phone
         self.rails = {rails.bus: rails for rails in self.stations(folder)}
         self.words = {"dcc_ex": self.rails[1].words, "z21": self.rails[2].words, "web": ["--web", self.web],
                       "guard": [], "withrottle": ["--listen", self.phones], "keep": [self.file, "--rest", "0.2"],
                       "mqtt": ["--broker-port", self.broker.port, "--home-assistant"]}
-        self.programs, self.troubles, self.count = {}, Counter(), Counter()
+        self.programs: dict[str, Process] = {}
+        self.troubles: Counter[str] = Counter()
+        self.count: Counter[str] = Counter()
         self.playing, self.ended = threading.Event(), threading.Event()
         for name in self.words:
             self.starts(name)
         self.joined()
         self.panel_lines = os.path.join(folder, "panel")
-        panel = [sys.executable, common.TOP / "examples" / "panel.py", "--port", str(self.server.port)]
+        panel = [sys.executable, str(common.TOP / "examples" / "panel.py"), "--port", str(self.server.port)]
         with open(self.panel_lines, "w") as out:
             self.panel = subprocess.Popen(panel, stdout=out)
         self.page = test_web.Events(self.web)
 
-    def stations(self, folder):
+    def stations(self, folder: str) -> Iterator[Rails]:
         from simulated_station import Station
         from simulated_z21 import Z21
         link, port = os.path.join(folder, "ttyACM0"), common.free_port()
         yield Rails(1, Station(link, seed=self.seed), "dcc_ex", ["--station", link], self.tells)
         yield Rails(2, Z21(port, loses=0, seed=self.seed), "z21", ["--station", f"127.0.0.1:{port}"], self.tells)
 
-    def tells(self, text):
+    def tells(self, text: str) -> None:
         print(f"{time.monotonic() - self.began:8.3f} {text}", flush=True)
 
-    def starts(self, name):
+    def starts(self, name: str) -> None:
         self.programs[name] = common.program(name + ".py", *self.words[name], "--port", self.server.port)
 
-    def joined(self):
+    def joined(self) -> None:
         until(lambda: all("server: joined" in started.told() for started in self.programs.values()), "all have joined",
               JOINED)
 
     # ---- changes
 
-    def command(self, draw):
+    def command(self, draw: random.Random) -> str:
         """A command for a throttle or a page."""
         bus, loco, turnout = draw.choice((1, 2)), draw.choice(LOCOMOTIVES), draw.choice(TURNOUTS)
         functions = " ".join(draw.choice("01") for _ in range(draw.randint(0, 5)))
@@ -102,7 +107,7 @@ class Evening:
                     f"SET 1 FB {draw.randint(17, 32)} 1", f"SET {bus} LOCK GL {loco} 1"]
         return draw.choices(commands, [3, 20, 1, 3, 5, 1, 2, 5, 1])[0].rstrip()
 
-    def sends(self, send, command):
+    def sends(self, send: Callable[[str], object], command: str) -> None:
         """Sends a command, and notes it at the rails that it is for."""
         if found := SPEED.match(command):
             bus, loco, mode, v = map(int, found.groups())
@@ -116,18 +121,18 @@ class Evening:
         else:
             send(command)
 
-    def throttle(self, draw):
+    def throttle(self, draw: random.Random) -> None:
         session = common.Session(self.server.port)
         with contextlib.closing(session):
             while self.may_go_on():
                 self.sends(session.ask, self.command(draw))
 
-    def pages(self, draw):
+    def pages(self, draw: random.Random) -> None:
         page = test_web.Events(self.web)
         while self.may_go_on():
             self.sends(page.post, self.command(draw))
 
-    def phone(self, draw):
+    def phone(self, draw: random.Random) -> None:
         """A phone drives all that it has taken, by one line. Who loses its phone, drives nothing."""
         phone = test_withrottle.Phone(self.wifi.port, watched=True)
         self.taken.clear()
@@ -143,7 +148,7 @@ class Evening:
             if "END" in phone.lines:
                 return
 
-    def display(self, draw):
+    def display(self, draw: random.Random) -> None:
         """An MQTT client. A command waits in a queue there, so it is noted until another one behind it is refused."""
         client, mark = test_mqtt.Client(self.broker.port, "srcp/online", "srcp/error"), 0
         try:
@@ -155,7 +160,7 @@ class Evening:
         finally:
             client.close()
 
-    def is_through(self, client, mark):
+    def is_through(self, client: test_mqtt.Client, mark: int) -> None:
         """Waits until all is carried out that a client of the broker has sent, or mqtt.py is gone."""
         client.client.publish(f"srcp/{NO_BUS}/GL/1/set", json.dumps({"v": mark, "v_max": 60000}))
         ends = time.monotonic() + HANG
@@ -164,7 +169,7 @@ class Evening:
                 return
             time.sleep(PACE / 3)
 
-    def hand(self, draw):
+    def hand(self, draw: random.Random) -> None:
         """Throttles at the stations, and what happens there. They drive what the registry has, and at a Z21 nothing
         while its driver is away: a Z21 tells once, and the driver cannot know of what the registry has no more. Who has
         one stand that stands tells nobody."""
@@ -184,7 +189,7 @@ class Evening:
                     with rails.commanded(loco, v > 0, has_reply=False) if is_told else contextlib.nullcontext():
                         rails.station.hand(loco, v, draw.randint(0, 1))
 
-    def stopper(self, draw):
+    def stopper(self, draw: random.Random) -> None:
         """A page, and a topic, stop all; in a moment somebody switches the power on again."""
         page, client = test_web.Events(self.web), test_mqtt.Client(self.broker.port, "srcp/online")
         try:
@@ -207,14 +212,14 @@ class Evening:
         finally:
             client.close()
 
-    def may_go_on(self, seconds=PACE):
+    def may_go_on(self, seconds: float = PACE) -> bool:
         """Waits a while, and as long as nothing is to change; returns whether the evening goes on."""
         self.ended.wait(seconds)
         self.playing.wait()
         self.count["changes"] += 1
         return not self.ended.is_set()
 
-    def plays(self, act):
+    def plays(self, act: Callable[[random.Random], None]) -> None:
         """Begins a client anew and anew, as its program or the server goes."""
         draw = random.Random(f"{self.seed} {act.__name__}")
         while not self.ended.is_set():
@@ -224,7 +229,7 @@ class Evening:
 
     # ---- troubles
 
-    def killed(self, name):
+    def killed(self, name: str) -> None:
         with contextlib.ExitStack() as losses:
             for rails in self.rails.values():
                 if rails.program == name:
@@ -235,7 +240,7 @@ class Evening:
             self.joined()
             time.sleep(1)
 
-    def slept(self, name):
+    def slept(self, name: str) -> None:
         with contextlib.ExitStack() as troubles:
             for rails in self.rails.values():
                 if rails.program == name or name not in ("dcc_ex", "z21"):
@@ -246,38 +251,38 @@ class Evening:
             finally:
                 self.programs[name].send(signal.SIGCONT)
 
-    def reset(self, rails):
+    def reset(self, rails: Rails) -> None:
         lies = rails.station.turnouts
         with rails.lost("reset"):
             rails.station.restart()
             rails.station.turnouts = lies | rails.station.turnouts
             time.sleep(3)
 
-    def cable(self, rails):
+    def cable(self, rails: Rails) -> None:
         with rails.lost("cable off"):
             rails.station.unplug()
             time.sleep(SILENT if rails.is_z21 else 2)
             rails.station.plug()
             time.sleep(3)
 
-    def hung(self, rails):
+    def hung(self, rails: Rails) -> None:
         with rails.lost("hang"):
             rails.station.hang()
             time.sleep(SILENT)
             rails.station.hang()
             time.sleep(2)
 
-    def server_lost(self, what, act):
+    def server_lost(self, what: str, act: Callable[[], None]) -> None:
         with self.rails[1].lost(what), self.rails[2].lost(what):
             act()
             time.sleep(3)
 
-    def server_hung(self):
+    def server_hung(self) -> None:
         self.server.process.send(signal.SIGSTOP)
         time.sleep(HANG)
         self.server.process.send(signal.SIGCONT)
 
-    def wifi_away(self):
+    def wifi_away(self) -> None:
         """A phone's lines are held back. Those that it drives stand meanwhile, since its heartbeats stay out."""
         self.wifi.away()
         time.sleep(SENT)
@@ -291,11 +296,11 @@ class Evening:
         time.sleep(REST)
         self.playing.set()
 
-    def weather(self, rails):
+    def weather(self, rails: Rails) -> None:
         rails.station.loses = self.draw.choice(LOSSES)
         self.tells(f"{rails.watch.name} loses {rails.station.loses:.0%}")
 
-    def trouble(self):
+    def trouble(self) -> None:
         name, rails = self.draw.choice(list(self.programs)), self.rails[self.draw.choice((1, 2))]
         driver = self.draw.choice(("dcc_ex", "z21"))
         kinds = {f"{name} killed": lambda: self.killed(name), f"{name} slept": lambda: self.slept(name),
@@ -314,7 +319,7 @@ class Evening:
         else:
             self.in_silence(kinds[what])
 
-    def in_silence(self, act):
+    def in_silence(self, act: Callable[[], None]) -> None:
         """Nobody commands anything meanwhile. So whatever starts, starts by itself."""
         self.playing.clear()
         time.sleep(SENT)
@@ -322,16 +327,16 @@ class Evening:
         time.sleep(REST)
         self.playing.set()
 
-    def threads(self, rails):
+    def threads(self, rails: Rails) -> list[int]:
         """Those by which a command comes to a station."""
         programs = self.server.process, self.programs["web"], self.programs[rails.program]
         return [*(started.pid for started in programs), rails.station.thread.native_id]
 
-    def look(self):
+    def look(self) -> None:
         for rails in self.rails.values():
             rails.look()
 
-    def run(self, seconds):
+    def run(self, seconds: int) -> None:
         acts = (self.throttle, self.throttle, self.pages, self.phone, self.display, self.hand, self.stopper)
         clients = [threading.Thread(target=self.plays, args=(act,), daemon=True) for act in acts]
         for rails in self.rails.values():
@@ -351,7 +356,7 @@ class Evening:
         time.sleep(QUIET)
         self.look()
 
-    def throw_each(self):
+    def throw_each(self) -> None:
         """Throws each turnout once more, behind all pulses. A panel that joins later cannot know how one lies of which
         an older pulse ended last."""
         time.sleep(ENDED)
@@ -361,12 +366,13 @@ class Evening:
 
     # ---- what all say at the end
 
-    def stamped(self):
+    def stamped(self) -> Rows:
         """The rows of a fresh panel, with their stamps."""
-        from srcp_bridges.rows import parse
-        return dict(parse(line) for line in stamped_lines(self.server.port))
+        found = Rows()
+        found.update((key, row) for key, row in map(parse, stamped_lines(self.server.port)) if row)
+        return found
 
-    def differences(self):
+    def differences(self) -> Iterator[str]:
         """Yields what does not say what a fresh panel is sent."""
         import keep
         rows = self.stamped()
@@ -376,36 +382,37 @@ class Evening:
         yield from self.turnouts(rows)
         if "END" in self.page.events:  # a browser joins again
             self.page = test_web.Events(self.web)
-        if not test_web.WebCase.same(self, self.page):
+        if not test_web.have_the_rows(self.server.port, self.page):
             yield "the page's rows"
         kept = Path(self.file).read_text("latin-1").split("\n")[:-1]
-        ways = {tuple(line.split()[1:4:2]): int(line.split()[4]) for line in kept if re.match(r"SET \d+ GL ", line)}
-        wanted = keep.commands_of(rows, False, lambda *which: ways.get(tuple(map(str, which))))  # no row has a way
+        told = [line.split() for line in kept if re.match(r"SET \d+ GL ", line)]
+        ways = {(int(words[1]), int(words[3])): int(words[4]) for words in told}
+        # After an emergency stop no row has a way.
+        wanted = keep.commands_of(rows, False, lambda bus, address: ways.get((bus, address), FORWARD))
         if kept != wanted:
             yield f"the file of keep.py: {sorted(set(kept) ^ set(wanted))[:6]}"
         topics = {topic: payload for topic, payload in test_mqtt.retained(self.broker.port).items()
                   if topic.startswith("srcp/") and not topic.endswith(("/position", "/online"))}
-        shown, wanted = test_mqtt.loaded(topics), test_mqtt.registry(self.server.port)
-        if wrong := [topic for topic in shown.keys() | wanted.keys() if shown.get(topic) != wanted.get(topic)]:
-            yield f"the retained topics: {[(topic, shown.get(topic), wanted.get(topic)) for topic in wrong][:5]}"
+        shown, due = test_mqtt.loaded(topics), test_mqtt.registry(self.server.port)
+        if wrong := [topic for topic in shown.keys() | due.keys() if shown.get(topic) != due.get(topic)]:
+            yield f"the retained topics: {[(topic, shown.get(topic), due.get(topic)) for topic in wrong][:5]}"
         yield from self.panel_differences(rows)
 
-    def turnouts(self, rows):
+    def turnouts(self, rows: Rows) -> Iterator[str]:
         """Yields which turnouts lie otherwise. A station reports none of them: one that lost a command is left out."""
-        from srcp_bridges.rows import position
         lies = self.rails[1].station.turnouts
         wrong = [turnout for turnout in TURNOUTS if (port := position(rows, 1, turnout)) is not None
                  and lies.get(turnout) != int(port > 0)]
         if wrong and not self.rails[1].station.trouble.spoilt:
             yield f"turnouts {wrong}"
 
-    def panel_differences(self, rows):
+    def panel_differences(self, rows: Mapping[Key, Row]) -> Iterator[str]:
         text = Path(self.panel_lines).read_text("latin-1")
         counted = int([line for line in text.split("\n") if line.endswith(" rows")][-1].split()[1])
         if counted + 1 != len(rows):  # the fresh panel is one more
             yield f"examples/panel.py holds {counted} rows, a fresh panel {len(rows)}"
 
-    def ends(self):
+    def ends(self) -> None:
         self.ended.set()
         for started in self.programs.values():
             started.end(signal.SIGKILL)

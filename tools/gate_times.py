@@ -12,10 +12,12 @@ import subprocess
 import sys
 import time
 from collections import defaultdict
+from collections.abc import Iterator, Mapping
 from pathlib import Path
 
 TICKS = os.sysconf("SC_CLK_TCK")
 STAGES = ("proof", "tests", "edits")
+Work = tuple[str, str]  # a crate, and one of STAGES
 
 
 def stage_of(words: list[str], folder: str) -> str:
@@ -25,12 +27,12 @@ def stage_of(words: list[str], folder: str) -> str:
     return "tests" if "--test" in words else "proof"
 
 
-def fields_of(process):
+def fields_of(process: Path) -> list[str]:
     """The fields of a process from its state on, as in proc(5): the second is its parent."""
     return (process / "stat").read_text().rpartition(")")[2].split()
 
 
-def is_below(process, command):
+def is_below(process: Path, command: int) -> bool:
     """Whether a process was begun by the command, or by a process that was."""
     while process.name not in ("0", "1"):
         process = process.with_name(fields_of(process)[1])
@@ -39,7 +41,7 @@ def is_below(process, command):
     return False
 
 
-def provers(command):
+def provers(command: int) -> Iterator[tuple[tuple[str, str], Work, float]]:
     """Each prover that runs below the command, as (process, start), with its crate, stage and processor seconds."""
     for process in Path("/proc").glob("[0-9]*"):
         try:
@@ -54,9 +56,9 @@ def provers(command):
             continue  # it ended while it was looked at
 
 
-def table(seconds_of, wall):
+def table(seconds_of: Mapping[tuple[str, str], tuple[Work, float]], wall: float) -> Iterator[str]:
     crates = sorted({crate for (crate, _), _ in seconds_of.values()})
-    sums = defaultdict(float)
+    sums: defaultdict[Work, float] = defaultdict(float)
     for (crate, stage), seconds in seconds_of.values():
         sums[crate, stage] += seconds / 60
     yield "| Crate | Proof | Tests | Edits | In all |\n|---|---|---|---|---|"
@@ -70,8 +72,9 @@ def table(seconds_of, wall):
     yield f"\n{whole:.0f} processor minutes in {wall / 60:.0f} minutes on {os.cpu_count()} processors"
 
 
-def main():
-    seconds_of, begun = {}, time.monotonic()
+def main() -> int:
+    seconds_of: dict[tuple[str, str], tuple[Work, float]] = {}
+    begun = time.monotonic()
     gate = subprocess.Popen(sys.argv[1:])
     while gate.poll() is None:
         seconds_of.update((key, (work, seconds)) for key, work, seconds in provers(gate.pid))

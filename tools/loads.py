@@ -6,11 +6,16 @@ import sys
 import tempfile
 import threading
 import time
+from collections.abc import Iterable, Iterator, Sequence
 from contextlib import contextmanager
 from pathlib import Path
+from typing import TYPE_CHECKING
 
+if TYPE_CHECKING:
+    from serving import Client
 sys.path.insert(0, str(Path(__file__).resolve().parent.parent / "tests"))
 
+Replay = tuple[list[str], Path, Path]  # the words that replay a script, the script, and what is printed of it
 TICKS = os.sysconf("SC_CLK_TCK")
 UNANSWERED = 2048
 COMMAND = b"SET 1 GL 3 1 5 28" + b" 0 1" * 9 + b"\n"
@@ -32,7 +37,7 @@ fb_ports = 40
 
 # ---- over sockets
 
-def processor_seconds(server):
+def processor_seconds(server: subprocess.Popen[bytes]) -> float:
     """Returns the time that a server of one thread has taken, to the nanosecond if the system tells that."""
     try:
         return int(Path(f"/proc/{server.pid}/schedstat").read_text().split()[0]) / 1e9
@@ -41,7 +46,7 @@ def processor_seconds(server):
         return (int(fields[11]) + int(fields[12])) / TICKS
 
 
-def pipelined(client, commands):
+def pipelined(client: "Client", commands: Sequence[bytes]) -> None:
     """Sends commands of which at most 2,048 bytes are unanswered, and takes a reply that is no error for each."""
     sent = answered = unanswered = 0
     while answered < len(commands):
@@ -56,7 +61,7 @@ def pipelined(client, commands):
             unanswered, answered = unanswered - len(commands[answered]), answered + 1
 
 
-def drain(client, stop, counted):
+def drain(client: "Client", stop: threading.Event, counted: list[int]) -> None:
     """Reads lines and notes how many they are, until it is to stop."""
     client.socket.settimeout(0.5)
     while not stop.is_set():
@@ -66,11 +71,15 @@ def drain(client, stop, counted):
             pass
 
 
-def stream(client, count):
+def stream(client: "Client", count: int) -> None:
     """Sends commands in pieces of 256 bytes, without waiting, and takes a reply for each."""
     commands = COMMAND * count
-    sender = threading.Thread(target=lambda: [client.socket.sendall(commands[at:at + 256])
-                                              for at in range(0, len(commands), 256)])
+
+    def send() -> None:
+        for at in range(0, len(commands), 256):
+            client.socket.sendall(commands[at:at + 256])
+
+    sender = threading.Thread(target=send)
     sender.start()
     replies = 0
     while replies < count:
@@ -82,7 +91,7 @@ def stream(client, count):
 
 # ---- runs of a program over a file
 
-def peak_of(process):
+def peak_of(process: subprocess.Popen[bytes]) -> int:
     """Returns the most memory in KiB that a running process has held, or 0 if it has just ended."""
     try:
         with open(f"/proc/{process.pid}/status") as status:
@@ -91,7 +100,7 @@ def peak_of(process):
         return 0
 
 
-def measured(words, path, output=os.devnull):
+def measured(words: list[str], path: str | Path, output: str | Path = os.devnull) -> tuple[float, int]:
     """Returns the seconds and the peak memory in KiB of a program over a file: the memory by a run of its own."""
     seconds, peak = 0.0, 0
     for watched in (False, True):
@@ -108,7 +117,7 @@ def measured(words, path, output=os.devnull):
 
 
 @contextmanager
-def replays(program, config):
+def replays(program: str, config: bytes) -> Iterator[Replay]:
     """Lends the words that replay a script on a layout, and where the script and what is printed of it go."""
     with tempfile.TemporaryDirectory() as folder:
         layout = Path(folder, "layout.toml")
@@ -116,7 +125,7 @@ def replays(program, config):
         yield [program, "replay", "--config", str(layout)], Path(folder, "script"), Path(folder, "record")
 
 
-def replayed(replay, events):
+def replayed(replay: Replay, events: Iterable[bytes]) -> tuple[float, bytes]:
     """Returns the least seconds of processor that a script takes in five runs, and what is printed of it."""
     words, script, record = replay
     script.write_bytes(b"\n".join(events) + b"\n")
@@ -135,17 +144,17 @@ def replayed(replay, events):
 class LongRun:
     """Draws the events of a long evening, and remembers which connections are open and of which kind."""
 
-    def __init__(self, seed):
+    def __init__(self, seed: int):
         self.draw = random.Random(seed)
         self.opened = 0
-        self.throttles = []
-        self.panels = []
+        self.throttles: list[int] = []
+        self.panels: list[int] = []
         self.moment = 0
 
-    def number(self, most):
+    def number(self, most: int) -> int:
         return self.draw.randint(1, most)
 
-    def arrive(self):
+    def arrive(self) -> Iterator[bytes]:
         """A throttle or a panel connects and begins its session."""
         self.opened += 1
         conn = self.opened
@@ -160,12 +169,12 @@ class LongRun:
         yield b"bytes %d GO\\n" % conn
         yield b"room %d 18" % conn
 
-    def leave(self):
+    def leave(self) -> Iterator[bytes]:
         among = self.throttles if self.draw.random() < 0.5 else self.panels
         if among:
             yield b"shut %d" % among.pop(self.draw.randrange(len(among)))
 
-    def command(self):
+    def command(self) -> bytes:
         address, draw = self.number(60), self.draw
         return draw.choice([
             b"SET 1 GL %d %d %d 28 1 0 1" % (address, draw.randint(0, 2), draw.randint(0, 28)),
@@ -177,23 +186,23 @@ class LongRun:
             b"SET 1 LOCK GA %d 0" % address, b"SET 1 POWER ON a long evening", b"GET 0 SESSION %d" % address,
         ])
 
-    def drive(self):
+    def drive(self) -> Iterator[bytes]:
         """A throttle sends one to four commands and takes the replies."""
         if self.throttles:
             conn = self.draw.choice(self.throttles)
             yield b"bytes %d %s" % (conn, b"".join(self.command() + b"\\n" for _ in range(self.number(4))))
             yield b"room %d 1000" % conn
 
-    def watch(self):
+    def watch(self) -> Iterator[bytes]:
         """A panel takes some bytes, few or many."""
         if self.panels:
             yield b"room %d %d" % (self.draw.choice(self.panels), self.draw.choice([0, 7, 60, 400, 20_000]))
 
-    def wait(self):
+    def wait(self) -> Iterator[bytes]:
         self.moment += self.number(400)
         yield b"at %d" % self.moment
 
-    def events(self):
+    def events(self) -> Iterator[bytes]:
         while True:
             open_now = len(self.throttles) + len(self.panels)
             step = self.draw.choices([self.drive, self.watch, self.wait, self.arrive, self.leave],
@@ -201,19 +210,21 @@ class LongRun:
             yield from step()
 
 
-def script_of_a_long_run(seed, count):
+def script_of_a_long_run(seed: int, count: int) -> tuple[bytes, int]:
     """Returns a script of that many events, or of as many as one may have, and how many they are."""
-    lines, size = [], 0
+    lines: list[bytes] = []
+    size = 0
     for event in LongRun(seed).events():
         lines.append(event)
         size += len(event) + 1
         if len(lines) == count or size > SCRIPT_BYTES:
-            return b"\n".join(lines) + b"\n", len(lines)
+            break
+    return b"\n".join(lines) + b"\n", len(lines)
 
 
 # ---- scripts and lines of a full bus
 
-def devices(count):
+def devices(count: int) -> list[tuple[bytes, int]]:
     """Returns devices of a bus, of both groups in the share of a full bus, in an order drawn from a fixed seed."""
     locomotives = round(count * LOCOMOTIVES / (LOCOMOTIVES + ACCESSORIES))
     drawn = [(b"GL", address) for address in range(1, locomotives + 1)]
@@ -222,7 +233,7 @@ def devices(count):
     return drawn
 
 
-def commands(count):
+def commands(count: int) -> Iterator[bytes]:
     for group, address in devices(count):
         yield b"INIT 1 GL %d N 1 28 0" % address if group == b"GL" else b"INIT 1 GA %d N" % address
     for group, address in devices(count):
@@ -231,7 +242,7 @@ def commands(count):
         yield b"SET 1 GL %d 1 5 28" % address if group == b"GL" else b"SET 1 GA %d 0 1 -1" % address
 
 
-def driven(count):
+def driven(count: int) -> Iterator[bytes]:
     """A throttle's part of the script, six commands a piece."""
     yield from (b"open", b"room 1 1000", b"bytes 1 GO\\n", b"room 1 1000")
     waiting = list(commands(count))
@@ -240,13 +251,13 @@ def driven(count):
         yield b"room 1 1000"
 
 
-def listed(count):
+def listed(count: int) -> Iterator[bytes]:
     """A panel's part."""
     yield from (b"open", b"room 2 1000", b"bytes 2 SET CONNECTIONMODE SRCP INFO\\n", b"room 2 1000", b"bytes 2 GO\\n")
     yield from (b"room 2 10000" for _ in range(count // 30 + 2))
 
 
-def falling_ports(count):
+def falling_ports(count: int) -> Iterator[bytes]:
     """Moments of which each brings one port back."""
     address = next(address for group, address in devices(count) if group == b"GA")
     for moment in range(MOMENTS):
@@ -255,13 +266,13 @@ def falling_ports(count):
         yield b"at %d" % (20 * moment + 20)
 
 
-def states(addresses):
+def states(addresses: int) -> Iterator[bytes]:
     """Half a million states of locomotives, as a long evening would send them."""
     for i in range(LINES):
         yield b"%d.%03d 100 INFO 1 GL %d 1 %d 28\n" % (i // 10_000, i % 1000, i * 7919 % addresses + 1, i % 29)
 
 
-def states_by_falling_key(rows):
+def states_by_falling_key(rows: int) -> Iterator[bytes]:
     """Returns a state of each locomotive, over as many buses as they need, the greatest key first."""
     for left in range(rows - 1, -1, -1):
         yield b"1.000 100 INFO %d GL %d 1 5 28\n" % (left // LOCOMOTIVES + 1, left % LOCOMOTIVES + 1)

@@ -57,7 +57,7 @@ class Rails:
                 self.watch.found(loss, REST)
 
     @contextmanager
-    def commanded(self, cab: int, drives: bool, has_reply=True) -> Iterator[Command]:
+    def commanded(self, cab: int, drives: bool, has_reply: bool = True) -> Iterator[Command]:
         """Notes a command to a locomotive while it is carried out."""
         command = self.watch.drives(cab) if drives else self.watch.stands(cab)
         try:

@@ -8,11 +8,13 @@ import time
 import tomllib
 from collections import Counter
 from pathlib import Path
+from typing import Any
 
 from bridge_tests import common
 from bridge_tests.common import until
 from srcp_bridges.rows import Lock, Port, parse
 
+Accessory = tuple[int, int]  # bus and address
 OWN = 9  # the routes' own bus
 BUSES = (1, 2)  # those of the devices of a route
 ROUTES = 8  # how many there are
@@ -26,7 +28,7 @@ THROTTLES = 3
 READY = f"none of {ROUTES} routes is set"
 
 
-def plan_of(draw):
+def plan_of(draw: random.Random) -> str:
     """A plan of routes, many of which conflict."""
     lines = [f"bus = {OWN}"]
     for number in range(1, ROUTES + 1):
@@ -38,12 +40,12 @@ def plan_of(draw):
 
 
 class Route:
-    def __init__(self, given):
+    def __init__(self, given: dict[str, Any]):
         self.turnouts = {(bus, address): port for bus, address, port in given["turnouts"]}
         self.signal = tuple(given["signal"][:2])
         self.blocks = {tuple(block) for block in given["blocks"]}
 
-    def conflicts(self, other):
+    def conflicts(self, other: "Route") -> bool:
         return bool(self.turnouts.keys() & other.turnouts.keys() or self.blocks & other.blocks
                     or self.signal == other.signal)
 
@@ -53,7 +55,7 @@ class Watch:
     `locked` by accessory which session has its lock, and `shown` by signal the routes over which it shows go. `lost`:
     the box has lost its session, and has not begun again."""
 
-    def __init__(self, plan):
+    def __init__(self, plan: dict[str, Any]):
         self.routes = {given["number"]: Route(given) for given in plan["route"]}
         self.throttles: set[int] = set()
         self.wrong: list[str] = []
@@ -61,25 +63,25 @@ class Watch:
         self.lost = False
         self.begins()
 
-    def begins(self):
+    def begins(self) -> None:
         """A server has begun."""
         self.lies: dict[tuple[int, int], int] = {}
         self.locked: dict[tuple[int, int], int] = {}
         self.shown: dict[tuple[int, int], set[int]] = {}
         self.set: set[int] = set()
 
-    def fault(self, text):
+    def fault(self, text: str) -> None:
         self.wrong.append(text)
         print(f"WRONG: {text}", flush=True)
 
-    def is_safe(self, number):
+    def is_safe(self, number: int) -> bool:
         """Returns whether the turnouts of a route are locked by one that is no throttle, and lie as it wants them."""
         turnouts = self.routes[number].turnouts
         holders = {self.locked.get(each) for each in turnouts}
         lies = all(self.lies.get(each) == port for each, port in turnouts.items())
         return lies and len(holders) == 1 and not holders & {None, *self.throttles}
 
-    def takes(self, line):
+    def takes(self, line: str) -> None:
         (bus, group, address, part), row = parse(line)
         match group, part, row:
             case "FB", "does", Port(value=value) if bus == OWN and address in self.routes:
@@ -91,7 +93,7 @@ class Watch:
             case "GA", "lock", None:
                 self.unlocks((bus, address))
 
-    def reports(self, number, is_set):
+    def reports(self, number: int, is_set: bool) -> None:
         self.count["set" if is_set else "reported as not set"] += 1
         if not is_set:
             return self.set.discard(number)
@@ -102,7 +104,7 @@ class Watch:
             self.fault(f"route {number} is set, and its turnouts are not locked, or lie wrong")
         self.set.add(number)
 
-    def moves(self, device, port):
+    def moves(self, device: Accessory, port: int) -> None:
         """A port of a turnout or of a signal was set to 1."""
         self.lies[device] = port
         self.loses("thrown", device, {number for number, route in self.routes.items()
@@ -114,12 +116,12 @@ class Watch:
             if port and not over:
                 self.fault(f"{device} shows go over no route whose turnouts are locked and thrown")
 
-    def unlocks(self, device):
+    def unlocks(self, device: Accessory) -> None:
         session = self.locked.pop(device, None)
         over = {number for number, route in self.routes.items() if device in route.turnouts}
         self.loses("unlocked", device, over, is_right=self.lost or session in self.throttles)
 
-    def loses(self, what, device, routes, is_right=False):
+    def loses(self, what: str, device: Accessory, routes: set[int], is_right: bool = False) -> None:
         """A turnout is lost to these routes. None of them may be set, or be the last over which a signal shows go."""
         set_ones = self.set & routes
         signals = [each for each, over in self.shown.items() if over and over <= routes]
@@ -131,7 +133,7 @@ class Watch:
 
 
 class Soak:
-    def __init__(self, program, seed):
+    def __init__(self, program: str, seed: int):
         common.SERVER = program
         self.draw = random.Random(seed)
         self.program = program
@@ -148,16 +150,16 @@ class Soak:
             thread.start()
         self.begin()
 
-    def begin(self):
+    def begin(self) -> None:
         self.box = common.program("box.py", "--plan", self.path, "--program", self.program, "--port", self.way.port)
         self.is_ready(0)
 
-    def is_ready(self, before):
+    def is_ready(self, before: int) -> None:
         """Waits until the box has begun once more. Then a lock that goes under a route is wrong again."""
         until(lambda: self.box.told().count(READY) > before, "the box has begun")
         self.watch.lost = False
 
-    def look(self):
+    def look(self) -> None:
         """Follows the server: after a restart, another one."""
         while self.running:
             with contextlib.suppress(OSError):
@@ -166,7 +168,7 @@ class Soak:
                 while self.running:
                     self.watch.takes(panel.line().decode().rstrip("\n"))
 
-    def drive(self):
+    def drive(self) -> None:
         """A throttle that asks for routes, and commands what it likes."""
         draw = random.Random(self.draw.random())
         while self.running:
@@ -178,7 +180,7 @@ class Soak:
                     self.watch.count["throws that were refused"] += reply.startswith("414")
                     time.sleep(PACE)
 
-    def command(self, draw):
+    def command(self, draw: random.Random) -> str:
         (bus, address), route = draw.choice(DEVICES), draw.randint(1, ROUTES)
         commands = [f"SET {OWN} GA {route} 1 1 250", f"SET {OWN} GA {route} 0 1 250",
                     f"SET {bus} GA {address} {draw.randint(0, 1)} 1 250",
@@ -189,43 +191,43 @@ class Soak:
 
     # ---- troubles
 
-    def killed(self):
+    def killed(self) -> None:
         self.watch.lost = True
         self.box.end(signal.SIGKILL)
         time.sleep(self.draw.random())
         self.begin()
 
-    def ended(self):
+    def ended(self) -> None:
         if status := self.box.end():
             self.watch.fault(f"the box ended with status {status}")
         self.begin()
 
-    def panel_lost(self):
+    def panel_lost(self) -> None:
         before = self.box.told().count(READY)
         self.way.cut()
         time.sleep(self.draw.random())
         self.way.free()
         self.is_ready(before)
 
-    def interlock_lost(self):
+    def interlock_lost(self) -> None:
         before = self.box.told().count(READY)
         for pid in subprocess.run(["pgrep", "-P", str(self.box.pid)], capture_output=True, text=True).stdout.split():
             subprocess.run(["kill", "-9", pid])
         self.is_ready(before)
 
-    def hung(self):
+    def hung(self) -> None:
         before, self.watch.lost = self.box.told().count(READY), True
         self.server.process.send(signal.SIGSTOP)
         time.sleep(5)
         self.server.process.send(signal.SIGCONT)
         self.is_ready(before)
 
-    def restarted(self):
+    def restarted(self) -> None:
         before, self.watch.lost = self.box.told().count(READY), True
         self.server.restart()
         self.is_ready(before)
 
-    def run(self, seconds):
+    def run(self, seconds: int) -> None:
         end = time.monotonic() + seconds
         while time.monotonic() < end:
             time.sleep(TROUBLE)
@@ -235,7 +237,7 @@ class Soak:
             print(f"{dict(self.watch.count)}; {trouble.__name__}", flush=True)
             trouble()
 
-    def ends(self):
+    def ends(self) -> None:
         self.running = False
         self.box.end()
         self.server.stop()

@@ -27,6 +27,7 @@ import sys
 import tempfile
 import threading
 import time
+from collections.abc import Callable
 from pathlib import Path
 
 from loads import LONG_RUN, measured, replays, script_of_a_long_run
@@ -102,7 +103,7 @@ def panels(program: str, seconds: int = 60) -> int:
 
 
 def bridges(program: str, seconds: int = 600, seed: int = 40) -> int:
-    def rested():
+    def rested() -> bool:
         time.sleep(QUIET)
         return not list(evening.differences())
 
@@ -139,8 +140,8 @@ def routes(program: str, seconds: int = 600, seed: int = 57) -> int:
     return wrong + (not count["set"])
 
 
-def main():
-    soaks = {soak.__name__: soak for soak in (replay, panels, bridges, routes)}
+def main() -> None:
+    soaks: dict[str, Callable[..., int]] = {"replay": replay, "panels": panels, "bridges": bridges, "routes": routes}
     if len(sys.argv) < 3 or sys.argv[1] not in soaks:
         sys.exit(__doc__)
     sys.exit(min(1, soaks[sys.argv[1]](str(Path(sys.argv[2]).resolve()), *map(int, sys.argv[3:]))))

@@ -5,7 +5,7 @@ import contextlib
 import socket
 from collections import defaultdict, deque
 from collections.abc import Awaitable, Callable, Iterable
-from typing import overload
+from typing import cast, overload
 
 from srcp_bridges.program import Wrong, say
 from srcp_bridges.rows import (EMERGENCY_STOP, FORWARD, NOT_SRCP, STOP_ALL, Change, Device, Drive, Key, Lock, LockKey,
@@ -79,8 +79,8 @@ class Session(asyncio.Protocol):
             raise ConnectionError("does not speak SRCP") if isinstance(fault, ValueError) else fault
 
     def connection_made(self, transport: asyncio.BaseTransport) -> None:
-        assert isinstance(transport, asyncio.Transport)
-        self.transport = transport  # which keeps little of what was told while this program sleeps
+        self.transport = cast(asyncio.Transport, transport)
+        # A transport keeps little of what was told while this program sleeps.
         transport.get_extra_info("socket").setsockopt(socket.SOL_SOCKET, socket.SO_RCVBUF, 1 << 17)
 
     def data_received(self, data: bytes) -> None:

@@ -18,7 +18,7 @@ from serving import Client, comes_again
 
 TOP = Path(__file__).resolve().parent.parent.parent
 PROGRAMS = Path(os.environ.get("SRCP_PROGRAMS", TOP / "bridges"))
-SERVER = None  # the built program; the case that runs sets it
+SERVER: str | None = None  # the built program; the case that runs sets it
 PACKAGES = "/usr/lib/python3/dist-packages"  # where Debian has paho, which another python3 does not look through
 LAYOUT = """port = {port}
 [[bus]]
@@ -155,8 +155,7 @@ def program(name, *words, **more):
 class Server:
     def __init__(self, layout=LAYOUT):
         self.config = os.path.join(new_folder(), "layout.toml")
-        self.process = None
-        while not self.process or self.process.process.poll() is not None:  # another process has taken the port
+        while not hasattr(self, "process") or self.process.process.poll() is not None:  # another has taken the port
             self.port = free_port()
             Path(self.config).write_text(layout.format(port=self.port))
             self.start()

@@ -122,6 +122,13 @@ class Events:
         self.socket.shutdown(socket.SHUT_RDWR)
 
 
+def have_the_rows(port, *pages):
+    """Returns whether pages have the rows of the server, without the sessions, of which the snapshot is one."""
+    theirs = {key: json.loads(json.dumps(row._asdict())) for key, row in parsed(rows(port)).items()}
+    return all({key: {**row, "stamp": 0} for key, row in page.rows.copy().items() if key[1] != "SESSION"} == theirs
+               for page in pages)
+
+
 class WebCase(Case):
     program = "web"
     words: tuple[object, ...] = ()
@@ -142,10 +149,7 @@ class WebCase(Case):
         return answer, text
 
     def same(self, *pages):
-        """Returns whether the pages have the rows of the server, without the sessions, of which the snapshot is one."""
-        theirs = {key: json.loads(json.dumps(row._asdict())) for key, row in parsed(rows(self.server.port)).items()}
-        return all({key: {**row, "stamp": 0} for key, row in page.rows.copy().items() if key[1] != "SESSION"} == theirs
-                   for page in pages)
+        return have_the_rows(self.server.port, *pages)
 
 
 class Web(WebCase):

@@ -1,5 +1,6 @@
 """Datagrams to and from a command station, by UDP."""
 import asyncio
+from typing import cast
 
 from srcp_bridges.stations.line import Place
 
@@ -19,8 +20,7 @@ class Datagrams(asyncio.DatagramProtocol):
         return (await asyncio.get_running_loop().create_datagram_endpoint(cls, remote_addr=where))[1]
 
     def connection_made(self, transport: asyncio.BaseTransport) -> None:
-        assert isinstance(transport, asyncio.DatagramTransport)
-        self.transport = transport
+        self.transport = cast(asyncio.DatagramTransport, transport)  # which Python 3.11 does not make one by its class
 
     def datagram_received(self, data: bytes | Exception, _: object) -> None:
         if not self.unread.full():
