@@ -107,7 +107,7 @@ class Evening:
                     f"SET 1 FB {draw.randint(17, 32)} 1", f"SET {bus} LOCK GL {loco} 1"]
         return draw.choices(commands, [3, 20, 1, 3, 5, 1, 2, 5, 1])[0].rstrip()
 
-    def sends(self, send: Callable[[str], object], command: str) -> None:
+    def sends(self, send: Callable[[str], str], command: str) -> None:
         """Sends a command, and notes it at the rails that it is for."""
         if found := SPEED.match(command):
             bus, loco, mode, v = map(int, found.groups())
