@@ -1,6 +1,6 @@
 //! A system with a record of the calls.
 
-ghost use Rattle.std.specs.Prelude.{◌≡◌, [], IfOk};
+ghost use Rattle.std.specs.Prelude.{◌≡◌, [], IfOk, None};
 
 use crate::network::Network;
 use crate::record::Entry;
@@ -24,6 +24,7 @@ pub(crate) fn open<'a>(
 ) -> Result<SocketDoor<Recorder<'a>>, AllocError>
     ensures faults { IfOk result (λ door. door.faults ≡ 0) }
     ensures log { IfOk result (λ door. door.sockets.system.log.steps ≡ []) }
+    ensures limit { IfOk result (λ door. door.sockets.most ≡ None) }
 {
     let system = Recorder {
         alloc,
