@@ -28,6 +28,7 @@ ghost use Rattle.srcp_peers.specs.Sizes.{AreSmall};
 ghost use Rattle.srcp_peers.specs.Times.{times};
 ghost use Rattle.srcp_peers.specs.Turns.{got_bytes, has_ticked, is_pending, reports_end};
 ghost use Rattle.srcp_peers.specs.Streams.{gave, handed, taken, took};
+ghost use Rattle.srcp_sockets.specs.Silence.{NobodyIsLostWhoTakes};
 
 use crate::door::SocketDoor;
 use srcp_door::MOST_WRITES;
@@ -241,6 +242,12 @@ pub fn nobody_starves<S: System>(door: &SocketDoor<S>)
         door.now.sockets.system.log.steps }
     ensures between { NobodyStarves door.now.sockets.turn.timekeeper.wall door.now.sockets.turn.timekeeper.start
         door.now.sockets.system.log.steps }
+{}
+
+/// States that nobody is lost for silence whose socket takes something. Let a peer not have been found lost as its
+/// socket took something. Then no look within 30 seconds from there finds the peer lost, whatever the socket takes.
+pub fn nobody_is_lost_who_takes()
+    ensures { NobodyIsLostWhoTakes }
 {}
 
 /// States that a read of a peer that was not there reported a fault. So did a read of a peer with nothing held of which

@@ -76,12 +76,11 @@ impl Socket {
 
     /// Looks at a socket that was found full.
     fn look(&mut self, now: u64) {
-        if self.watch.is_calm(now) {
+        let after = self.watch.after_look(now);
+        if matches!((self.watch, after), (Watch::Emptied { .. }, Watch::Taking)) {
             lose_after(&self.stream, LOST_AFTER);
-            self.watch = Watch::Taking;
-        } else if self.watch.is_due() && self.watch.is_lost(now) {
-            self.watch = Watch::Lost;
         }
+        self.watch = after;
     }
 
     /// Returns whether a look found the peer lost, once.

@@ -1,7 +1,7 @@
 //! When a peer is lost whose socket takes nothing, and when the system is to find a peer that answers nothing.
 
 ghost use Rattle.std.specs.Prelude.{◌≡◌};
-ghost use Rattle.srcp_sockets.specs.Silence.{is_calm, is_lost};
+ghost use Rattle.srcp_sockets.specs.Silence.{after_look, after_write, is_over};
 
 /// How often the sockets are looked at that were found full, in milliseconds.
 pub(crate) const LOOK_EVERY: u64 = 5_000;
@@ -40,7 +40,9 @@ pub(crate) enum Watch {
 impl Watch {
     /// Returns how the socket takes what is written after a write took `count` of `all` bytes, when the clock showed
     /// `now`. A write that took nothing leaves the time at which the socket took the last bytes.
-    pub(crate) fn after_write(self, count: usize, all: usize, now: u64) -> Watch {
+    pub(crate) fn after_write(self, count: usize, all: usize, now: u64) -> Watch
+        ensures { result ≡ after_write count all now self }
+    {
         match self {
             Watch::Lost | Watch::Told => self,
             Watch::Full { since } if count == 0 => Watch::Full { since },
@@ -50,35 +52,27 @@ impl Watch {
         }
     }
 
+    /// Returns how the socket takes what is written after a look at the socket when the clock showed `now`. The peer is
+    /// lost if its socket took nothing for `LOST_AFTER` milliseconds although the door holds bytes for the peer.
+    pub(crate) fn after_look(self, now: u64) -> Watch
+        ensures { result ≡ after_look now self }
+    {
+        match self {
+            Watch::Full { since } if now.saturating_sub(since) >= LOST_AFTER => Watch::Lost,
+            Watch::Emptied { since } if now.saturating_sub(since) >= CALM_AFTER => Watch::Taking,
+            _ => self,
+        }
+    }
+
     /// Returns whether a look found the peer lost.
-    pub(crate) fn is_over(self) -> bool {
+    pub(crate) fn is_over(self) -> bool
+        ensures { result ≡ is_over self }
+    {
         matches!(self, Watch::Lost | Watch::Told)
     }
 
     /// Returns whether the socket is to be looked at.
     pub(crate) fn is_due(self) -> bool {
         matches!(self, Watch::Full { .. } | Watch::Emptied { .. })
-    }
-
-    /// Returns whether the peer is lost when the clock shows `now`: its socket took nothing for `LOST_AFTER`
-    /// milliseconds although the door holds bytes for the peer.
-    pub(crate) fn is_lost(self, now: u64) -> bool
-        ensures { result ≡ is_lost self now }
-    {
-        match self {
-            Watch::Full { since } => now.saturating_sub(since) >= LOST_AFTER,
-            Watch::Lost | Watch::Told => true,
-            Watch::Taking | Watch::Emptied { .. } => false,
-        }
-    }
-
-    /// Returns whether the socket took all for `CALM_AFTER` milliseconds when the clock shows `now`.
-    pub(crate) fn is_calm(self, now: u64) -> bool
-        ensures { result ≡ is_calm self now }
-    {
-        match self {
-            Watch::Emptied { since } => now.saturating_sub(since) >= CALM_AFTER,
-            Watch::Taking | Watch::Full { .. } | Watch::Lost | Watch::Told => false,
-        }
     }
 }
