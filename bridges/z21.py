@@ -29,7 +29,7 @@ from srcp_bridges.stations.thrown import Thrown
 
 PORT = 21105
 PULSE = 0.1  # seconds for which a turnout's output is on
-STRAY = 1.0  # seconds for which a datagram may be on its way
+STRAY = 2.0  # seconds for which a datagram may be on its way
 
 
 class Z21(Confirmed):
@@ -55,7 +55,7 @@ class Z21(Confirmed):
         self.pulses: dict[int, int] = {}  # turnouts of which an output is to go off, and that output
         self.on: set[int] = set()  # turnouts of which an output is on: what is reported of one says that it is off
         self.looks = 0
-        self.drives: defaultdict[tuple, deque] = defaultdict(deque)  # what it was told of each cab that drives, and when
+        self.drives: defaultdict[tuple, deque] = defaultdict(deque)  # when each cab was told to drive, and how
 
     async def connect(self) -> Datagrams:
         return await Datagrams.open(self.where)

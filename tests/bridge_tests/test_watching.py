@@ -116,6 +116,12 @@ class Watching(unittest.TestCase):
         self.stops_all(2)
         self.moves += [(3, 3, 60), (3.1, 3, 0)]
         self.says("start after STOP ALL")
+        self.setUp()
+        self.watch.delay = lambda begin, end: 1.0
+        self.drives(1)
+        self.at(2, lambda: self.watch.stopped(self.watch.stops_all(), has_reply=False))
+        self.moves += [(8, 3, 60), (8.01, 3, 0), (8.2, 3, 60), (8.3, 3, 0)]
+        self.says("start after STOP ALL")
 
     def test_a_start_of_before_a_loss_at_a_line_that_loses_none(self) -> None:
         self.drives(4.2)
