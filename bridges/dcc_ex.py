@@ -76,7 +76,8 @@ class DccEx(Confirmed):
             self.say_stop_all()
             self.line.write(ask_locomotive(others[0]))  # a report that the line damaged may have made it up
         self.ticks += 1
-        new, known = self.bus.addresses() - self.asked, sorted(self.track.known)
+        ours = self.bus.addresses()
+        new, known = ours - self.asked, sorted(self.track.known | self.unsaid & ours)
         if not self.ahead.fits(urgent=False) or self.ticks % ASKS and not new:
             return
         if new:
