@@ -15,7 +15,8 @@ class Driving(Case):
         just before the first SET of it is sent, and something just behind its reply."""
         from srcp_bridges import srcp
         self.throttle.order("INIT 1 GL 3 N 1 126 2", "SET 1 GL 3 1 60 126 0 0", *filter(None, [first]))
-        asks, others = srcp.Session.ask, [[before], [behind]]
+        asks = srcp.Session.ask
+        others: list[list[str]] = [[before], [behind]]
 
         async def ask(session: srcp.Session, command: str) -> object:
             is_first = command.startswith("SET 1 GL 3 ") and bool(others)

@@ -97,7 +97,8 @@ class Watching(unittest.TestCase):
         """A program waited for a processor for a second. What is later is a breach, and so is a start of before
         a STOP ALL that was confirmed."""
         breaches = ["start after loss", "start after to stand", f"drive on {AFTER_STOP_ALL}"]
-        for late, kinds in ((0.9, []), (1.1, breaches)):
+        none: list[str] = []
+        for late, kinds in ((0.9, none), (1.1, breaches)):
             self.setUp()
             self.watch.delay = lambda begin, end: 1.0
             self.drives(4)
