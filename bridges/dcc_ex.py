@@ -26,7 +26,7 @@ MESSAGE = re.compile(
     r"|l (?P<cab>\d{1,5}) (?P<slot>-?\d{1,5}) (?P<speed>\d{1,3}) (?P<functions>-?\d{1,10})|(?P<refused>X)"
     r"|[rv] ?(?P<cv>\d{1,4}) (?P<value>-[123]|\d{1,3}))>",
     re.ASCII | re.DOTALL)
-CABS = range(1, 10240)  # addresses of locomotives
+CABS = range(1, 1 << 14)  # addresses of locomotives
 BYTE = range(256)
 ASKS = 5  # looks at what is not confirmed from one question how a locomotive drives to the next
 
@@ -77,7 +77,8 @@ class DccEx(Confirmed):
             self.say_stop_all()
             self.line.write(ask_locomotive(others[0]))  # a report that the line damaged may have made it up
         self.ticks += 1
-        new, known = self.bus.addresses() - self.asked, sorted(self.track.known)
+        ours = self.bus.addresses()
+        new, known = ours - self.asked, sorted(self.track.known | self.unsaid & ours)
         if not self.ahead.fits(urgent=False) or self.ticks % ASKS and not new:
             return
         if new:

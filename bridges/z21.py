@@ -30,7 +30,7 @@ from srcp_bridges.stations.thrown import Thrown
 
 PORT = 21105
 PULSE = 0.1  # seconds for which a turnout's output is on
-STRAY = 1.0  # seconds for which a datagram may be on its way
+STRAY = 2.0  # seconds for which a datagram may be on its way
 
 
 class Z21(Confirmed):

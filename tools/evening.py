@@ -329,7 +329,7 @@ class Evening:
 
     def threads(self, rails: Rails) -> list[int]:
         """Those by which a command comes to a station."""
-        programs = self.server.process, self.programs["web"], self.programs[rails.program]
+        programs = self.server.process, *(self.programs[name] for name in ("web", "mqtt", rails.program))
         return [*(started.pid for started in programs), rails.station.thread.native_id]
 
     def look(self) -> None:

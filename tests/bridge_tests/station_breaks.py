@@ -192,6 +192,8 @@ STATION_BREAKS = [  # the file, whose cases, what is wrong, the text, what stand
      "        if part[0] == \"cab\" and value[0] < 0 and", "        if False and"),
     ("dcc_ex", "dcc-ex", "what a station kept counts as a hand's",
      "kept = {(\"cab\", address): drives} if drives[0] > 0 else {}", "kept = {}"),
+    ("dcc_ex", "dcc-ex", "a station is asked once what it kept", "self.track.known | self.unsaid & ours",
+     "self.track.known"),
     ("dcc_ex", "dcc-ex", "a locomotive that is not there keeps a STOP ALL unconfirmed",
      "        self.track.others.pop(address, None)\n", ""),
     ("dcc_ex", "dcc-ex", "a speed that there is not counts as a hand's",

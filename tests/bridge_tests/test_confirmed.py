@@ -117,6 +117,15 @@ class DccExTelling(Telling, DccExCase):
         self.station.report = report
         self.has("100 INFO 1 GL 3 1 45 126")
 
+    def test_what_a_station_kept_is_asked_for_until_it_says_that(self):
+        """The line loses the first question."""
+        self.driver.end(signal.SIGKILL)
+        self.throttle.order("SET 1 GL 3 1 0 28 0 0 0")
+        take, lost = self.station.take, []
+        self.station.take = lambda command: lost.append(0) if command == b"<t 3" and not lost else take(command)
+        self.start()
+        self.track(lambda s: lost and not self.functions(), "they are switched off", 20)
+
     def test_what_a_station_kept_stands_though_the_line_lost_its_stops(self):
         """Its cable was off, and it drives on. No hand drives it: as somebody switches the power on, it stands."""
         self.station.unplug()

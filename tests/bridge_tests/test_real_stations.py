@@ -166,17 +166,21 @@ class Z21WithShuffles(InTheEnd, Z21Case):
 
     def test_a_speed_that_comes_behind_a_stop(self):
         """It is no hand's: the train stands in the end, and its row says so. A STOP ALL is no other stop."""
-        for turn in range(20):
-            stop = ("SET 1 GL 3 2 0 28", "SET 1 POWER ON stop all")[turn % 2]
+        for turn in range(6):
             self.station.trouble.shuffles = 0
-            self.throttle.order("SET 1 POWER ON", "SET 1 GL 3 1 14 28")
-            self.track(lambda s: s.power and s.cabs[3] == (63, 1), "it drives")
+            until(self.drives_again, "it drives")
             self.station.trouble.shuffles = 0.5
             self.throttle.order("SET 1 GL 3 1 20 28")
             time.sleep(0.02)
-            self.throttle.order(stop)
+            self.throttle.order(stop := ("SET 1 GL 3 2 0 28", "SET 1 POWER ON stop all")[turn % 2])
             time.sleep(2 * QUIET)
             self.track(lambda s: s.cabs[3][0] <= 0 and not self.commanded(), stop, 10)
+
+    def drives_again(self):
+        """Whether it drives, once it is commanded to: a report of before may have put it to rest."""
+        self.throttle.order("SET 1 POWER ON", "SET 1 GL 3 1 14 28")
+        time.sleep(QUIET)
+        return self.station.power and self.station.cabs[3] == (63, 1)
 
 
 class Z21Start(Z21Case):

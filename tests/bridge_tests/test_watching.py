@@ -97,8 +97,8 @@ class Watching(unittest.TestCase):
         """A program waited for a processor for a second. What is later is a breach, and so is a start of before
         a STOP ALL that was confirmed."""
         breaches = ["start after loss", "start after to stand", f"drive on {AFTER_STOP_ALL}"]
-        cases: tuple[tuple[float, list[str]], ...] = (0.9, []), (1.1, breaches)
-        for late, kinds in cases:
+        none: list[str] = []
+        for late, kinds in ((0.9, none), (1.1, breaches)):
             self.setUp()
             self.watch.delay = lambda begin, end: 1.0
             self.drives(4)
@@ -116,6 +116,12 @@ class Watching(unittest.TestCase):
         self.drives(1)
         self.stops_all(2)
         self.moves += [(3, 3, 60), (3.1, 3, 0)]
+        self.says("start after STOP ALL")
+        self.setUp()
+        self.watch.delay = lambda begin, end: 1.0
+        self.drives(1)
+        self.at(2, lambda: self.watch.stopped(self.watch.stops_all(), has_reply=False))
+        self.moves += [(8, 3, 60), (8.01, 3, 0), (8.2, 3, 60), (8.3, 3, 0)]
         self.says("start after STOP ALL")
 
     def test_a_start_of_before_a_loss_at_a_line_that_loses_none(self) -> None:

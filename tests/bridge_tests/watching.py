@@ -119,6 +119,7 @@ class Watch:
         """The reply to a STOP ALL has come; or it has none, and is carried out within QUEUED seconds. If the station
         hears it, all stand within so many seconds of the reply."""
         stop.done = self.clock() + (0 if has_reply else QUEUED)
+        stop.surely = stop.done if has_reply else inf
         if is_heard:
             self.checks.append(Check(stop.done + within, stop.sent, AFTER_STOP_ALL))
             self.count["STOP ALL that are looked at"] += 1
@@ -182,8 +183,10 @@ class Watch:
         ends = {"to stand": last(stood), "STOP ALL": last(stops), "loss": last(losses)}
         if not self.is_driven(cab, max(ends.values()), moment) and not self.is_told_again(cab, ends, moment):
             why = max(ends, key=lambda name: ends[name])
+            unreplied = [stop.done + STANDS for stop in self.stops
+                         if stop.sent == ends["STOP ALL"] and stop.surely == inf]
             ended = {"loss": last([loss.begin for loss in self.losses if loss.begin <= moment]),
-                     "to stand": ends["to stand"] + STOOD}.get(why, -inf)
+                     "to stand": ends["to stand"] + STOOD, "STOP ALL": last(unreplied)}[why]
             since = max((command.sent for command in self.sent(cab, moment)), default=inf)
             if self.is_late_by_machine(cab, max(since, ended - QUEUED), moment, moment - ended):
                 return
