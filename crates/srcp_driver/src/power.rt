@@ -45,7 +45,7 @@ pub(crate) fn dark() -> Power
 }
 
 /// Returns whether there is a value, and it is this one.
-fn is_told(value: Option<bool>, is_on: bool) -> bool
+pub(crate) fn is_told(value: Option<bool>, is_on: bool) -> bool
     ensures { result ≡ is_told value is_on }
 {
     match value {
