@@ -5,7 +5,7 @@ use Rattle.std.specs.Option.{option_map_or}
 use Rattle.std.specs.Prelude.{if◌then◌else◌, is_some, ◌||◌}
 use Rattle.srcp_driver.specs.Cabs.{confirms, has_passed, is_silent, reported, told}
 use Rattle.srcp_driver.specs.Drives.{is_same_way}
-use Rattle.srcp_driver.specs.Powers.{is_cut, power_aged}
+use Rattle.srcp_driver.specs.Powers.{is_cut, power_aged, power_heard}
 use Rattle.srcp_driver.specs.Runs.{asks_stop, counts, course, heard, is_here, is_moment, is_stop_all, Known, known, known_ordered, knows}
 use Rattle.srcp_driver.specs.Runs.{Made, moment, on_at, owes_stop, told_since}
 use Rattle.srcp_driver.specs.Steps.{at, next, noted, put_noted, put_refused, switched, Table}
@@ -118,7 +118,10 @@ power_plain : (made : Made) (past : List Event) (on here : Bool) → Plain made 
     (if here then switched (course made past) on else course made past)
 power_plain made past on true p = calm made past (event.SaidPower on) (switched (course made past) on) p refl refl refl refl
     refl refl refl refl
-    (reported_of on (course made past).power (course made past).power.awaited (course made past).power.told)
+    (if_on_at (is_cut on (course made past).power)
+    (record (course made past).power { is_on = false; told = Some false; awaited = None; is_late = false })
+    (power_heard on (course made past).power) (course made past).power.on_at refl
+    (reported_of on (course made past).power (course made past).power.awaited (course made past).power.told))
     refl refl (power_length (course made past) on true (is_cut on (course made past).power))
 power_plain made past on false p = calm made past (event.SaidPower on) (course made past) p refl refl refl refl refl refl refl
     refl refl refl refl refl
