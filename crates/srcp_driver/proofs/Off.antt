@@ -1,12 +1,13 @@
 -- The power does not come on by itself.
-use Rattle.std.proofs.Common.{◌&&◌, ◌++◌, [], Bool, false, List, None, not, Option, refl, Some, true, ℕ, ◌∷◌, ◌≡◌}
+use Rattle.std.proofs.Common.{◌&&◌, ◌++◌, [], ap, Bool, false, List, None, not, Option, refl, Some, subst, sym, true, ℕ, ◌∙◌, ◌∷◌, ◌≡◌}
+use Rattle.std.proofs.Common.{◌≢◌}
 use Rattle.std.specs.Option.{option_map_or}
 use Rattle.std.specs.Prelude.{if◌then◌else◌, is_some, ◌||◌}
 use Rattle.srcp_driver.specs.Cabs.{confirms, has_passed, is_silent, reported, told}
 use Rattle.srcp_driver.specs.Drives.{is_same_way}
-use Rattle.srcp_driver.specs.Laws.{AreNo, PowerStaysOff, switches_on}
-use Rattle.srcp_driver.specs.Powers.{is_told}
-use Rattle.srcp_driver.specs.Runs.{course, is_power_loss, Made}
+use Rattle.srcp_driver.specs.Laws.{AreNo, CutsStay, PowerStaysOff, switches_on}
+use Rattle.srcp_driver.specs.Powers.{is_cut, is_told, power_heard}
+use Rattle.srcp_driver.specs.Runs.{course, is_here, is_power_loss, Made, order}
 use Rattle.srcp_driver.specs.Steps.{after, at, happens, next, next_put, noted, put_noted, put_refused, switched, Table, tells}
 use Rattle.srcp_driver.specs.declared.drive.Drive.{Drive}
 use Rattle.srcp_driver.specs.declared.event.Event.{Event}
@@ -16,6 +17,7 @@ use Rattle.srcp_driver.specs.declared.power.Power.{Power}
 use Rattle.srcp_driver.specs.declared.event.Event.TheVariants as event
 use Rattle.srcp_driver.specs.declared.event.Put.TheVariants as put
 use Rattle.srcp_driver.specs.declared.event.Tell.TheVariants as tell
+use Rattle.srcp_driver.proofs.Agree.{agrees}
 use Rattle.srcp_driver.proofs.Chosen.{order_on}
 
 abbrev IsOff : Table → Type 0
@@ -43,7 +45,9 @@ said_off_of p None None e = e
 
 said_off : (t : Table) (on here : Bool) → on ≡ false → IsOff t → IsOff (if here then switched t on else t)
 said_off t true here denied e = absurd (cc)
-said_off t false true denied e = said_off_of t.power t.power.awaited t.power.told e
+said_off t false true denied e = if_off (is_cut false t.power)
+    (record t.power { is_on = false; told = Some false; awaited = None; is_late = false }) (power_heard false t.power) refl
+    (said_off_of t.power t.power.awaited t.power.told e)
 said_off t false false denied e = e
 
 said_same_off : (t : Table) (m : ℕ) (drive : Drive) (here : Bool) → IsOff t
@@ -104,9 +108,16 @@ lost_off t (event.Reply accepted) e = absurd (cc)
 lost_off t event.Joined e = absurd (cc)
 lost_off t event.Ready e = absurd (cc)
 
-since_off : (made : Made) (before : List Event) (loss : Event) (since : List Event) → is_power_loss loss ≡ true
+-- the power is off once a hand has switched it off
+cut_off : (t : Table) (here : Bool) → t.is_here ≡ here → here ≡ true → is_cut false t.power ≡ true → IsOff (happens t (event.SaidPower false))
+cut_off t here is h cut =
+    subst (λ (b : Bool). IsOff (if b then switched t false else t)) (sym (is ∙ h))
+    (ap (λ (b : Bool). (if b then record t.power { is_on = false; told = Some false; awaited = None; is_late = false }
+    else power_heard false t.power).is_on) cut)
+
+since_off : (made : Made) (before : List Event) (loss : Event) (since : List Event) → IsOff (happens (course made before) loss)
     → AreNo switches_on since → IsOff (course made (since ++ loss ∷ before))
-since_off made before loss [] lost denied = after_off (course made before) loss (lost_off (course made before) loss lost)
+since_off made before loss [] lost denied = after_off (course made before) loss lost
 since_off made before loss (event ∷ since) lost denied = after_off (course made (since ++ loss ∷ before)) event
     (heard_off (course made (since ++ loss ∷ before)) event denied.0 (since_off made before loss since lost denied.1))
 
@@ -114,11 +125,21 @@ first_of : (a b c : Bool) → (a && b && c) ≡ true → a ≡ true
 first_of true b c e = refl
 first_of false b c e = absurd (cc)
 
-pub power_stays_off : PowerStaysOff
-power_stays_off made before loss since event lost denied e =
+stays_off : (made : Made) (before : List Event) (loss : Event) (since : List Event) (newest : Event)
+    → IsOff (happens (course made before) loss) → AreNo switches_on (newest ∷ since)
+    → order made (since ++ loss ∷ before) newest ≢ Some (tell.Power true)
+stays_off made before loss since newest lost denied e =
     let t : Table = course made (since ++ loss ∷ before) in
-    let off : IsOff (happens t event) = heard_off t event denied.0 (since_off made before loss since lost denied.1) in
-    let one = order_on (happens t event) e in
-    let p : Power = (happens t event).power in
+    let off : IsOff (happens t newest) = heard_off t newest denied.0 (since_off made before loss since lost denied.1) in
+    let one = order_on (happens t newest) e in
+    let p : Power = (happens t newest).power in
     let on : p.is_on ≡ true = first_of p.is_on (not (is_told p.told true)) (option_map_or (λ on. p.is_late) p.awaited true) one.on in
     absurd (cc)
+
+pub power_stays_off : PowerStaysOff
+power_stays_off made before loss since newest lost denied =
+    stays_off made before loss since newest (lost_off (course made before) loss lost) denied
+
+pub cuts_stay : CutsStay
+cuts_stay made before since newest here cut denied = stays_off made before (event.SaidPower false) since newest
+    (cut_off (course made before) (is_here before) (sym (agrees made before).plain.here) here cut) denied

@@ -57,16 +57,22 @@ power_held power = record power { is_on = false; told = None }
 abbrev pub power_forgotten : Power → Power
 power_forgotten power = record power { is_on = false; told = None; awaited = None; is_late = false }
 
--- the station reports that it is on, or off: what it was told, or, if it has confirmed what it was told, a hand's doing
-abbrev pub power_reported : Bool → Power → Power
-power_reported on power = option_map_or
+-- a hand has switched it off: the station was told last that it is on, whether or not it has confirmed that
+abbrev pub is_cut : Bool → Power → Bool
+is_cut on power = not on && (is_told power.awaited true || (is_none power.awaited && is_told power.told true))
+
+-- the station reports that it is on, or off, and no hand has switched it off: what it was told, or, if it has confirmed
+-- what it was told, a hand's doing
+abbrev pub power_heard : Bool → Power → Power
+power_heard on power = option_map_or
     (λ told. if is_same_way told on then record power { awaited = None; is_late = false } else power) power.awaited
     (option_map_or (λ told. record power { is_on = if is_same_way told on then power.is_on else on; told = Some on })
     power.told power)
 
--- a hand has switched it off
-abbrev pub is_cut : Bool → Power → Bool
-is_cut on power = not on && is_none power.awaited && is_told power.told true
+abbrev pub power_reported : Bool → Power → Power
+power_reported on power = if is_cut on power
+    then record power { is_on = false; told = Some false; awaited = None; is_late = false }
+    else power_heard on power
 
 -- a moment comes: what the station was told may be lost
 abbrev pub power_aged : ℕ → Power → Power

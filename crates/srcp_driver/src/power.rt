@@ -45,7 +45,7 @@ pub(crate) fn dark() -> Power
 }
 
 /// Returns whether there is a value, and it is this one.
-fn is_told(value: Option<bool>, is_on: bool) -> bool
+pub(crate) fn is_told(value: Option<bool>, is_on: bool) -> bool
     ensures { result ≡ is_told value is_on }
 {
     match value {
@@ -128,11 +128,14 @@ impl Power {
         }
     }
 
-    /// Returns whether a report that the power is on, or off, says that a hand has switched it off.
+    /// Returns whether a report that the power is on, or off, says that a hand has switched it off: the station was told
+    /// last that it is on. The report may also come before the station has confirmed that.
     pub(crate) fn is_cut(self, is_on: bool) -> bool
         ensures { result ≡ is_cut is_on self }
     {
-        !is_on && self.awaited.is_none() && is_told(self.told, true)
+        let is_awaited = is_told(self.awaited, true);
+        let is_last = self.awaited.is_none() && is_told(self.told, true);
+        !is_on && (is_awaited || is_last)
     }
 
     /// Returns the power once the station has reported that it is on, or off: what it was told, or else, if it has
@@ -140,6 +143,15 @@ impl Power {
     pub(crate) fn reported(self, is_on: bool) -> Power
         ensures { result ≡ power_reported is_on self }
     {
+        if self.is_cut(is_on) {
+            return Power {
+                is_on: false,
+                told: Some(false),
+                awaited: None,
+                is_late: false,
+                ..self
+            };
+        }
         match (self.awaited, self.told) {
             (Some(told), _) => {
                 if told == is_on {
