@@ -57,10 +57,14 @@ A_TURNOUT = b"{number = 5, turnouts = [[1, 40, 1]]}"
 MIXED = "a signal of one is a turnout of the other"
 CROSSED = "a port is go for one and stop for the other"
 # What is refused of a plan, or of the routes of one whose bus is 9
+A_DRAWING = (b'bus = 9\nplan = "A=t=B"\nlegend = {t = {turnout = [1, 12, 1]}}\n'
+             b"route = [{number = 1, ")
 REFUSED_PLANS = {
     b"bus =": "not TOML",
     b"bus = 9\nbus = 9\nroute = []": "not TOML",
     b"bus = 9\nroute = [] # \xff": "not TOML",
+    b"routes = 1": "a key that is none of a plan",
+    b"bus = 9\nroute = []\nname = 1": "a key that is none of a plan",
     b"": "bus missing",
     b"route = 1": "bus missing",
     b"bus = 0\nroute = []": "bus out of range",
@@ -69,6 +73,8 @@ REFUSED_PLANS = {
     b"bus = 9": "route missing",
     b"bus = 9\nroute = 1": "route out of range",
     b"bus = 9\n[route]\nnumber = 1": "route out of range",
+    A_DRAWING + b'from = "A", to = "B"}]': "route 1: no track leads over its turnouts",
+    A_DRAWING + b'from = "A", to = "C", turnouts = [[1, 12, 0]]}]': "route 1: no track leads over its turnouts",
 }
 REFUSED_ROUTES = {
     b"1": "route out of range",
@@ -76,6 +82,9 @@ REFUSED_ROUTES = {
     b"{number = 0}": "number out of range",
     b"{number = 2045}": "number out of range",
     b"{number = 1}, {number = 1, turnouts = 1}": "route 1 twice",
+    b"{number = 1, block = [[1, 5]], turnouts = 1}": "route 1: a key that is none of a route",
+    b"{number = 1, bus = 9}": "route 1: a key that is none of a route",
+    b"{block = [[1, 5]]}": "number missing",
     b"{number = 1, turnouts = 1}": "route 1: turnouts out of range",
     b"{number = 1, turnouts = [1, 12, 1]}": "route 1: turnouts out of range",
     b"{number = 1, turnouts = [[1, 12]]}": "route 1: turnouts out of range",
@@ -113,6 +122,9 @@ REFUSED_ROUTES = {
     b"{number = 5, turnouts = [[1, 40, 1]], signal = [2, 40, 0, 1]}": f"routes 3 and 5: {MIXED}",
 }
 PRINTED_PLANS = {
+    A_DRAWING + b'from = "A", to = "B", turnouts = [[1, 12, 0]]}]': "bus 9\nroute 1 over t B",
+    A_DRAWING + b'from = "B", to = "A", turnouts = [[1, 12, 0]]}]': "bus 9\nroute 1 over t A",
+    A_DRAWING + b'from = "A"}]': "bus 9\nroute 1",
     b'bus = 9\nplan = 1\nroute = [{number = 1, name = "West", from = "W"}]': "bus 9\nroute 1",
     b"bus = 250\nroute = [{number = 2044, turnouts = [[249, 2044, 7], [1, 2044, 0]], "
     b"blocks = [[249, 4096], [249, 4096]], signal = [249, 1, 7, 0], frees = [1, 4096]}]": "bus 250\nroute 2044",

@@ -48,7 +48,8 @@ function whyItIsLost(route) {                   // a turnout that a hand has thr
   return key && text("routeThrown", { name: name(key) });
 }
 function conflict(one, other) {
-  const of = ({ turnouts, signal, blocks }) => [...Object.keys(turnouts), ...blocks, ...signal ? [signal.key] : []];
+  const of = ({ turnouts, signal, blocks, pieces }) =>
+    [...Object.keys(turnouts), ...blocks, ...signal ? [signal.key] : [], ...pieces];
   return of(one).some(key => of(other).includes(key));
 }
 export const chosen = () => first;

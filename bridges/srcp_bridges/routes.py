@@ -90,7 +90,7 @@ class Routes:
             raise self.wrong(index, "turnouts", "the turnouts of a route are a list of [bus, address, port]")
 
     def way(self, index: int, given: dict[str, Any]) -> dict[str, Any]:
-        """Returns the tracks of a route."""
+        """Returns the tracks of a route, and what it shares with a route that crosses it or ends where it does."""
         ports = {(bus, address): port for bus, address, port in given.get("turnouts", [])}
         begin, end = (self.elements.named[given[key]].node for key in ("from", "to"))
 
@@ -102,9 +102,11 @@ class Routes:
         if (tracks := way(self.ways, begin, end, turn)) is None:
             raise self.wrong(index, "turnouts", f"no track leads from {begin.text} to {end.text} over the turnouts of "
                              f"route {given['number']}")
+        left = leaves(self.ways, begin, tracks)
         if "signal" in given:
-            self.passes(index, given, {node.text: side for node, side in leaves(self.ways, begin, tracks).items()})
-        return {"tracks": tracks}
+            self.passes(index, given, {node.text: side for node, side in left.items()})
+        crossings = [f"{node.row} {node.left}" for node in left if node.text == "+"]
+        return {"tracks": tracks, "pieces": [*tracks, *crossings, end.text]}
 
     def passes(self, index: int, given: dict[str, Any], left: dict[str, int]) -> None:
         """Notes to which side a route passes its signal. `left`: the sides by which it leaves its elements."""

@@ -18,6 +18,7 @@ PLAN_BREAKS = [
      "            if name not in self.named:", "            if False:"),
     ("routes", "plan", "two routes may have one begin and one end",
      "if all(before[key] == given[key] for key in (\"from\", \"to\")):", "if False:"),
+    ("routes", "plan", "two routes that cross have no piece in common", "if node.text == \"+\"]", "if False]"),
     ("lines", "plan", "a drawing begins in the line of its key",
      "            self.bare |= {number} if", "            self.bare |= set() if"),
     ("lines", "plan", "all routes stand in the lines of the first",

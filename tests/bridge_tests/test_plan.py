@@ -143,6 +143,8 @@ class Plans(unittest.TestCase):
         one, two = (self.corners(drawing, each["tracks"]) for each in drawing["routes"])
         self.assertEqual(one, [((0.5, 0.5), (2.0, 0.5), (3.5, 1.5)), ((3.5, 1.5), (5.0, 2.5), (6.5, 2.5))])
         self.assertEqual([track[-1] for track in two], [(3.5, 1.5), (0.5, 2.5)])
+        pieces = [{*each["pieces"]} for each in drawing["routes"]]
+        self.assertEqual(pieces[0] & pieces[1], {"1 3"})  # the crossing, by its row and its column
         flat = cross.replace("a=\\ /=b\n   +\nc=/ \\=d", "    /=b\na==+==d\nc=/   ")
         plan_of(flat + route.format(1, "a", "d") + route.format(2, "c", "b"))
         for text, end in [(cross, "b"), (cross, "c"), (flat, "b"), (flat, "c")]:

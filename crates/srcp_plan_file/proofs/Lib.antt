@@ -1,3 +1,4 @@
+pub mod Leading
 pub mod Lists
 pub mod Sharing
 pub mod Whole

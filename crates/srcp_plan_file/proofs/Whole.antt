@@ -15,13 +15,14 @@ use Rattle.srcp_routes.specs.Conflicts.{has_accessory, is_same}
 use Rattle.srcp_routes.specs.declared.route.Device.{Device}
 use Rattle.srcp_routes.specs.declared.route.Setting.{Setting}
 use Rattle.srcp_routes.specs.declared.route.Signal.{Signal}
-use Rattle.srcp_plan_file.specs.Document.{OrFault, other_bus, device_of}
-use Rattle.srcp_plan_file.specs.Document.{turnout_of, sensor_of, signal_with, signal_of, new_turnout, turnout_in, turnouts_in, array_if}
+use Rattle.srcp_plan_file.specs.Devices.{OrFault, other_bus, device_of, turnout_of, sensor_of, signal_with, signal_of}
+use Rattle.srcp_plan_file.specs.Document.{drawn_in, new_turnout, pieces_at, turnout_in, turnouts_in, array_if}
 use Rattle.srcp_plan_file.specs.Document.{sensor_in, blocks_in, new_signal, signal_at, frees_at, route_numbered}
 use Rattle.srcp_plan_file.specs.Document.{is_numbered, new_number, apart_from, apart_from_all, route_of, route_in, routes_in}
 use Rattle.srcp_plan_file.specs.Document.{plan_in, plan_of}
 use Rattle.srcp_plan_file.specs.Faults.{plan_key}
-use Rattle.srcp_plan_file.specs.Plan.{PlannedRoute, IsBeside, IsAccessory, IsSensor, IsTurnout, IsSignal, AreOther, IsRoute}
+use Rattle.srcp_plan_file.specs.Keys.{only_known, plan_keys, route_keys}
+use Rattle.srcp_plan_file.specs.Plan.{Drawn, PlannedRoute, IsBeside, IsAccessory, IsSensor, IsTurnout, IsSignal, AreOther, IsRoute}
 use Rattle.srcp_plan_file.specs.Plan.{AreApart, IsPlan, last_port, mixes, crosses}
 use Rattle.srcp_plan_file.specs.declared.plan.Field.{Field}
 use Rattle.srcp_plan_file.specs.declared.plan.Field.TheVariants as field
@@ -232,14 +233,16 @@ module _ (own number : ℕ) where
   abbrev IsNumbered : PlannedRoute → Type 0
   IsNumbered route = IsRoute own route × (route.number ≡ number)
 
-  numbered : (members : Members) → IsFrom 1 greatest_ga number → IfOk (route_numbered own number members) IsNumbered
-  numbered members n =
+  numbered : (drawn : Drawn) (members : Members) → IsFrom 1 greatest_ga number
+      → IfOk (route_numbered own number drawn members) IsNumbered
+  numbered drawn members n =
       after AreTurnouts IsNumbered (array_if number field.Turnouts members >>= turnouts_in own number []) _ (turnouts_hold members)
       (λ turnouts t. after (All (IsSensor own)) IsNumbered (array_if number field.Blocks members >>= blocks_in own number [])
       _ (blocks_hold members)
       (λ blocks b. after (IsSignalBeside turnouts) IsNumbered (signal_at own number turnouts members) _ (signal_holds turnouts members)
       (λ signal s. after (λ frees. IfSome frees (IsSensor own)) IsNumbered (frees_at own number members) _ (frees_hold members)
-      (λ frees f. (
+      (λ frees f. after (λ pieces. Unit) IsNumbered (pieces_at drawn number turnouts members) _ (any _)
+      (λ pieces p. (
         record {
           number = n;
           turnouts = t.0;
@@ -250,7 +253,7 @@ module _ (own number : ℕ) where
           signal_once = s.1;
         },
         refl,
-      )))))
+      ))))))
 
 -- ---- routes beside those before them
 
@@ -295,35 +298,38 @@ joined : (number : ℕ) (other route : PlannedRoute) → route.number ≡ number
     → AreApart other route
 joined number other route e f u = record { numbers = rw e (differs number other.number f); unmixed = u.0; uncrossed = u.1 }
 
-is_next_route : (own : ℕ) (before : List PlannedRoute) (members : Members) → IfOk (route_of own before members) (IsNextRoute own before)
-is_next_route own before members =
+is_next_route : (own : ℕ) (drawn : Drawn) (before : List PlannedRoute) (members : Members)
+    → IfOk (route_of own drawn before members) (IsNextRoute own before)
+is_next_route own drawn before members =
     after (IsNewNumber before) (IsNextRoute own before) (number_at 1 greatest_ga (plan_key field.Number) members >>= new_number before) _
     (after (IsFrom 1 greatest_ga) (IsNewNumber before) (number_at 1 greatest_ga (plan_key field.Number) members) _
     (is_number 1 greatest_ga field.Number members)
     (λ n h. new_number_if before n (list_any (is_numbered n) before) refl h))
-    (λ n h. after (IsNumbered own n) (IsNextRoute own before) (route_numbered own n members) _ (numbered own n members h.0)
+    (λ n h. after (λ u. Unit) (IsNextRoute own before) (only_known route_keys (fault.UnknownIn n) members) _ (any _)
+    (λ u o. after (IsNumbered own n) (IsNextRoute own before) (route_numbered own n drawn members) _ (numbered own n drawn members h.0)
     (λ route r. after (λ u. All (λ other. AreUnmixed other route) before) (IsNextRoute own before) (apart_from_all before route) _
     (are_apart before route)
-    (λ u k. (r.0, λ i d lt. joined n _ route r.1 (h.1 i d lt) (k i d lt)))))
+    (λ u k. (r.0, λ i d lt. joined n _ route r.1 (h.1 i d lt) (k i d lt))))))
 
-is_route_in : (own : ℕ) (before : List PlannedRoute) (value : Data) → IfOk (route_in own before value) (IsNextRoute own before)
-is_route_in own before (string s) = tt
-is_route_in own before (integer n) = tt
-is_route_in own before (float x) = tt
-is_route_in own before (boolean x) = tt
-is_route_in own before (datetime x) = tt
-is_route_in own before (array x) = tt
-is_route_in own before (table members) = is_next_route own before members
+is_route_in : (own : ℕ) (drawn : Drawn) (before : List PlannedRoute) (value : Data)
+    → IfOk (route_in own drawn before value) (IsNextRoute own before)
+is_route_in own drawn before (string s) = tt
+is_route_in own drawn before (integer n) = tt
+is_route_in own drawn before (float x) = tt
+is_route_in own drawn before (boolean x) = tt
+is_route_in own drawn before (datetime x) = tt
+is_route_in own drawn before (array x) = tt
+is_route_in own drawn before (table members) = is_next_route own drawn before members
 
 abbrev AreRoutes : (own : ℕ) → List PlannedRoute → Type 0
 AreRoutes own routes = All (IsRoute own) routes × AllPairs AreApart routes
 
-are_routes : (own : ℕ) (before : List PlannedRoute) (values : List Data) → AreRoutes own before
-    → IfOk (routes_in own before values) (AreRoutes own)
-are_routes own before [] h = h
-are_routes own before (value ∷ values) h =
-    after (IsNextRoute own before) (AreRoutes own) (route_in own before value) _ (is_route_in own before value)
-    (λ route n. are_routes own (before ++ route ∷ []) values
+are_routes : (own : ℕ) (drawn : Drawn) (before : List PlannedRoute) (values : List Data) → AreRoutes own before
+    → IfOk (routes_in own drawn before values) (AreRoutes own)
+are_routes own drawn before [] h = h
+are_routes own drawn before (value ∷ values) h =
+    after (IsNextRoute own before) (AreRoutes own) (route_in own drawn before value) _ (is_route_in own drawn before value)
+    (λ route n. are_routes own drawn (before ++ route ∷ []) values
     (All-push (IsRoute own) before route h.0 n.0, all_pairs_push AreApart before route h.1 n.1))
 
 -- ---- documents
@@ -332,13 +338,13 @@ none_apart : AllPairs AreApart []
 none_apart = λ i j d lt below. absurd (omega arith)
 
 is_plan_in : (members : Members) → IfOk (plan_in members) IsPlan
-is_plan_in members =
-    after (IsFrom 1 greatest_bus) IsPlan (number_at 1 greatest_bus (plan_key field.Bus) members) _
+is_plan_in members = after (λ u. Unit) IsPlan (only_known plan_keys fault.Unknown members) _ (any _)
+    (λ u o. after (IsFrom 1 greatest_bus) IsPlan (number_at 1 greatest_bus (plan_key field.Bus) members) _
     (is_number 1 greatest_bus field.Bus members)
-    (λ bus b. after (AreRoutes bus) IsPlan (array_at (plan_key field.Route) members >>= routes_in bus []) _
+    (λ bus b. after (AreRoutes bus) IsPlan (array_at (plan_key field.Route) members >>= routes_in bus (drawn_in members) []) _
     (after (λ v. Unit) (AreRoutes bus) (array_at (plan_key field.Route) members) _ (any _)
-    (λ values k. are_routes bus [] values (All-nil (IsRoute bus), none_apart)))
-    (λ routes r. record { bus = b; each = r.0; apart = r.1 }))
+    (λ values k. are_routes bus (drawn_in members) [] values (All-nil (IsRoute bus), none_apart)))
+    (λ routes r. record { bus = b; each = r.0; apart = r.1 })))
 
 pub is_plan_of : (bytes : List ℕ) → IfOk (plan_of bytes) IsPlan
 is_plan_of bytes = after (λ m. Unit) IsPlan (document fault.NotToml bytes) plan_in (any _) (λ members h. is_plan_in members)

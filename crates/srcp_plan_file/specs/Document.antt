@@ -1,64 +1,71 @@
 -- What a plan says: from the bytes of a TOML document to the routes, or to the first fault.
-use Rattle.std.specs.Prelude.{ℕ, Bool, ◌==◌, if◌then◌else◌, List, [], ◌∷◌, ◌++◌, Option, Some, None, Result, Ok, Err}
-use Rattle.std.specs.List.{list_any}
-use Rattle.toml.specs.Data.{Data, table, Members}
+use Rattle.std.specs.Prelude.{ℕ, Bool, ◌==◌, if◌then◌else◌, List, [], ◌∷◌, ◌++◌, Option, Some, None, Ok, Err}
+use Rattle.std.specs.Prelude.{length, map, nat_eq, ok_or, option_and_then, unwrap_or}
+use Rattle.std.specs.List.{list_any, position}
+use Rattle.std.specs.Cmp.Lexicographic.{pointwise}
+use Rattle.toml.specs.Data.{Data, table, Members, as_str, as_table}
 use Rattle.srcp_layout_file.specs.Gives.{◌>>=◌}
-use Rattle.srcp_info.specs.Limits.{greatest_bus, greatest_ga, greatest_fb}
-use Rattle.srcp_layout_file.specs.Member.{array_at, array_in, document, if_given, number_at, ranged, value_at}
+use Rattle.srcp_info.specs.Limits.{greatest_bus, greatest_ga}
+use Rattle.srcp_layout_file.specs.Member.{array_at, array_in, document, if_given, number_at, value_at}
 use Rattle.srcp_routes.specs.Conflicts.{has_accessory}
 use Rattle.srcp_routes.specs.declared.route.Device.{Device}
 use Rattle.srcp_routes.specs.declared.route.Setting.{Setting}
 use Rattle.srcp_routes.specs.declared.route.Signal.{Signal}
 use Rattle.srcp_plan_file.specs.Faults.{plan_key}
-use Rattle.srcp_plan_file.specs.Plan.{Planned, PlannedRoute, crosses, last_port, mixes}
+use Rattle.srcp_plan_file.specs.Devices.{OrFault, sensor_of, signal_of, turnout_of}
+use Rattle.srcp_plan_file.specs.Drawing.{drawing, name_of}
+use Rattle.srcp_plan_file.specs.Elements.{kind_of}
+use Rattle.srcp_plan_file.specs.Joins.{joins_of}
+use Rattle.srcp_plan_file.specs.Keys.{only_known, plan_keys, route_keys}
+use Rattle.srcp_plan_file.specs.Plan.{Drawn, Planned, PlannedRoute, crosses, mixes}
+use Rattle.srcp_plan_file.specs.Ways.{way}
 use Rattle.srcp_plan_file.specs.declared.plan.Field.{Field}
 use Rattle.srcp_plan_file.specs.declared.plan.Field.TheVariants as field
-use Rattle.srcp_plan_file.specs.declared.plan.PlanFault.{PlanFault}
 use Rattle.srcp_plan_file.specs.declared.plan.PlanFault.TheVariants as fault
 
--- what may be read, or the first fault
-abbrev pub OrFault : Type 0 → Type 0
-OrFault A = Result A PlanFault
+-- ---- the drawing
 
--- ---- devices
+-- the text at a key, if it is one
+abbrev pub text_at : Field → Members → Option (List ℕ)
+text_at of members = option_and_then as_str (value_at (plan_key of) members)
 
--- a bus, which is not the routes' own
-abbrev pub other_bus : (own : ℕ) → PlanFault → ℕ → OrFault ℕ
-other_bus own beyond bus = if bus == own then Err beyond else Ok bus
+-- the legend, if it is a table
+abbrev pub legend_at : Members → Option Members
+legend_at members = option_and_then as_table (value_at (plan_key field.Legend) members)
 
--- a device of its bus and its address
-abbrev pub device_of : (own greatest : ℕ) → PlanFault → (bus address : Data) → OrFault Device
-device_of own greatest beyond bus address = do
-  number ← ranged 1 greatest_bus beyond bus >>= other_bus own beyond
-  place ← ranged 1 greatest beyond address
-  Ok (record { bus = number; address = place })
+-- the tracks of a drawing, with what the legend says of them
+abbrev pub drawn_of : (text : List ℕ) → Option Members → Drawn
+drawn_of text legend = record {
+  text = text;
+  pieces = drawing text;
+  kinds = map (kind_of text legend) (drawing text);
+  joins = joins_of (drawing text);
+}
 
--- a turnout of its bus, its address and its port
-abbrev pub turnout_of : (own : ℕ) → PlanFault → List Data → OrFault Setting
-turnout_of own beyond (bus ∷ address ∷ port ∷ []) = do
-  device ← device_of own greatest_ga beyond bus address
-  wanted ← ranged 0 last_port beyond port
-  Ok (record { device = device; port = wanted })
-turnout_of own beyond other = Err beyond
+-- those of the document's drawing, if there is one
+abbrev pub drawn_in : Members → Drawn
+drawn_in members = drawn_of (unwrap_or (text_at field.Plan members) []) (legend_at members)
 
--- a sensor of its bus and its address
-abbrev pub sensor_of : (own : ℕ) → PlanFault → List Data → OrFault Device
-sensor_of own beyond (bus ∷ address ∷ []) = device_of own greatest_fb beyond bus address
-sensor_of own beyond other = Err beyond
+-- the piece of this name
+abbrev pub piece_named : Drawn → (name : List ℕ) → Option ℕ
+piece_named drawn name = position (λ piece. pointwise nat_eq (name_of drawn.text piece) name) drawn.pieces
 
--- a signal of two ports, which differ
-abbrev pub signal_with : PlanFault → Device → (go stop : ℕ) → OrFault Signal
-signal_with beyond device go stop =
-    if go == stop then Err beyond else Ok (record { device = device; go = go; stop = stop })
+-- the way from one name to another
+abbrev pub way_between : Drawn → List Setting → (from to : List ℕ) → Option (List ℕ)
+way_between drawn turnouts from to = option_and_then
+    (λ begin. option_and_then (way drawn.joins drawn.kinds turnouts begin) (piece_named drawn to))
+    (piece_named drawn from)
 
--- a signal of its bus, its address, and its ports for "go" and "stop"
-abbrev pub signal_of : (own : ℕ) → PlanFault → List Data → OrFault Signal
-signal_of own beyond (bus ∷ address ∷ go ∷ stop ∷ []) = do
-  device ← device_of own greatest_ga beyond bus address
-  shown ← ranged 0 last_port beyond go
-  stopped ← ranged 0 last_port beyond stop
-  signal_with beyond device shown stopped
-signal_of own beyond other = Err beyond
+-- the pieces of the way of a route from one name to another, which there has to be
+abbrev pub pieces_between : Drawn → (number : ℕ) → List Setting → Option (List ℕ) → Option (List ℕ) → OrFault (List ℕ)
+pieces_between drawn number turnouts (Some from) (Some to) =
+    ok_or (way_between drawn turnouts from to) (fault.NoWay number)
+pieces_between drawn number turnouts from to = Ok []
+
+-- the pieces of the way of a route, none if nothing is drawn or the route names no ends
+abbrev pub pieces_at : Drawn → (number : ℕ) → List Setting → Members → OrFault (List ℕ)
+pieces_at drawn number turnouts members = if length drawn.pieces == 0 then Ok []
+    else pieces_between drawn number turnouts (text_at field.From members) (text_at field.To members)
 
 -- ---- routes
 
@@ -117,13 +124,21 @@ module _ (own number : ℕ) where
       (value_at (plan_key field.Frees) members)
 
   -- the route of this number, from its keys
-  abbrev pub route_numbered : Members → OrFault PlannedRoute
-  route_numbered members = do
+  abbrev pub route_numbered : Drawn → Members → OrFault PlannedRoute
+  route_numbered drawn members = do
     turnouts ← array_if number field.Turnouts members >>= turnouts_in []
     blocks ← array_if number field.Blocks members >>= blocks_in []
     signal ← signal_at turnouts members
     frees ← frees_at members
-    Ok (record { number = number; turnouts = turnouts; blocks = blocks; signal = signal; frees = frees })
+    pieces ← pieces_at drawn number turnouts members
+    Ok (record {
+      number = number;
+      turnouts = turnouts;
+      blocks = blocks;
+      signal = signal;
+      frees = frees;
+      pieces = pieces;
+    })
 
 -- a route has this number
 abbrev pub is_numbered : ℕ → PlannedRoute → Bool
@@ -147,33 +162,35 @@ apart_from_all (other ∷ others) route = do
   apart_from_all others route
 
 -- a route beside those before it
-abbrev pub route_of : (own : ℕ) → List PlannedRoute → Members → OrFault PlannedRoute
-route_of own before members = do
+abbrev pub route_of : (own : ℕ) → Drawn → List PlannedRoute → Members → OrFault PlannedRoute
+route_of own drawn before members = do
   number ← number_at 1 greatest_ga (plan_key field.Number) members >>= new_number before
-  route ← route_numbered own number members
+  _ ← only_known route_keys (fault.UnknownIn number) members
+  route ← route_numbered own number drawn members
   _ ← apart_from_all before route
   Ok route
 
 -- a route is a table
-abbrev pub route_in : (own : ℕ) → List PlannedRoute → Data → OrFault PlannedRoute
-route_in own before (table members) = route_of own before members
-route_in own before other = Err (fault.OutOfRange field.Route)
+abbrev pub route_in : (own : ℕ) → Drawn → List PlannedRoute → Data → OrFault PlannedRoute
+route_in own drawn before (table members) = route_of own drawn before members
+route_in own drawn before other = Err (fault.OutOfRange field.Route)
 
 -- the routes before, and these in the order of the document
-abbrev pub routes_in : (own : ℕ) → List PlannedRoute → List Data → OrFault (List PlannedRoute)
-routes_in own before [] = Ok before
-routes_in own before (value ∷ values) = do
-  route ← route_in own before value
-  routes_in own (before ++ route ∷ []) values
+abbrev pub routes_in : (own : ℕ) → Drawn → List PlannedRoute → List Data → OrFault (List PlannedRoute)
+routes_in own drawn before [] = Ok before
+routes_in own drawn before (value ∷ values) = do
+  route ← route_in own drawn before value
+  routes_in own drawn (before ++ route ∷ []) values
 
 -- ---- documents
 
 -- what a document says
 abbrev pub plan_in : Members → OrFault Planned
 plan_in members = do
+  _ ← only_known plan_keys fault.Unknown members
   bus ← number_at 1 greatest_bus (plan_key field.Bus) members
-  routes ← array_at (plan_key field.Route) members >>= routes_in bus []
-  Ok (record { bus = bus; routes = routes })
+  routes ← array_at (plan_key field.Route) members >>= routes_in bus (drawn_in members) []
+  Ok (record { bus = bus; drawn = drawn_in members; routes = routes })
 
 -- what the bytes of a plan say
 abbrev pub plan_of : List ℕ → OrFault Planned

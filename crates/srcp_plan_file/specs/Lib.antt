@@ -1,5 +1,11 @@
+pub mod Devices
 pub mod Document
+pub mod Drawing
+pub mod Elements
 pub mod Faults
+pub mod Joins
+pub mod Keys
 pub mod Laws
 pub mod Output
 pub mod Plan
+pub mod Ways

@@ -9,7 +9,11 @@ use Rattle.srcp_routes.specs.declared.route.Device.{Device}
 use Rattle.srcp_routes.specs.declared.route.Route.{Route}
 use Rattle.srcp_routes.specs.declared.route.Setting.{Setting}
 use Rattle.srcp_routes.specs.declared.route.Signal.{Signal}
+use Rattle.srcp_plan_file.specs.declared.drawing.Piece.{Piece}
+use Rattle.srcp_plan_file.specs.declared.element.Kind.{Kind}
+use Rattle.srcp_plan_file.specs.declared.join.Join.{Join}
 use Rattle.srcp_plan_file.specs.declared.plan.Plan.{Plan}
+use Rattle.srcp_plan_file.specs.declared.tracks.Tracks.{Tracks}
 
 -- the last port of an accessory, whose ports are counted from 0
 abbrev pub last_port : ℕ
@@ -22,10 +26,19 @@ pub record PlannedRoute : Type 0 where
   pub blocks : List Device
   pub signal : Option Signal
   pub frees : Option Device
+  pub pieces : List ℕ
+
+-- the tracks of a drawing: its text, the pieces and what each of them is, and the joins as a train passes to the right
+pub record Drawn : Type 0 where
+  pub text : List ℕ
+  pub pieces : List Piece
+  pub kinds : List Kind
+  pub joins : List Join
 
 -- what a plan says
 pub record Planned : Type 0 where
   pub bus : ℕ
+  pub drawn : Drawn
   pub routes : List PlannedRoute
 
 abbrev pub planned_route : Route → PlannedRoute
@@ -35,10 +48,20 @@ planned_route route = record {
   blocks = route.blocks.items;
   signal = route.signal;
   frees = route.frees;
+  pieces = route.pieces.items;
+}
+
+abbrev pub drawn : Tracks → Drawn
+drawn tracks = record {
+  text = tracks.text.items;
+  pieces = tracks.pieces.items;
+  kinds = tracks.kinds.items;
+  joins = tracks.joins.items;
 }
 
 abbrev pub planned : Plan → Planned
-planned plan = record { bus = plan.bus; routes = map planned_route plan.routes.items }
+planned plan =
+    record { bus = plan.bus; drawn = drawn plan.tracks; routes = map planned_route plan.routes.items }
 
 -- ---- accessories
 

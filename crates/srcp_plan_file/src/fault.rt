@@ -5,7 +5,7 @@ ghost use Rattle.srcp_plan_file.specs.Faults.{plan_key, plan_text};
 
 use crate::plan::{Field, PlanFault};
 use srcp_layout_file::member::Key;
-use std::alloc::AllocFailed;
+use std::alloc::{AllocError, AllocFailed};
 use std::fmt;
 
 impl Key for Field {
@@ -22,6 +22,16 @@ impl Key for Field {
             Field::Blocks => "blocks",
             Field::Signal => "signal",
             Field::Frees => "frees",
+            Field::Plan => "plan",
+            Field::Legend => "legend",
+            Field::From => "from",
+            Field::To => "to",
+            Field::Turnout => "turnout",
+            Field::Sensor => "sensor",
+            Field::Button => "button",
+            Field::Names => "names",
+            Field::Functions => "functions",
+            Field::Name => "name",
         }
     }
 
@@ -48,12 +58,19 @@ impl fmt::Display for PlanFault {
                 let key = field.name();
                 write!(f, "plan: {key} out of range")
             }
+            PlanFault::Unknown => write!(f, "plan: a key that is none of a plan"),
+            PlanFault::UnknownIn(number) => {
+                write!(f, "plan: route {number}: a key that is none of a route")
+            }
             PlanFault::Twice(number) => write!(f, "plan: route {number} twice"),
             PlanFault::Beyond(number, field) => {
                 let key = field.name();
                 write!(f, "plan: route {number}: {key} out of range")
             }
             PlanFault::Repeated(number) => write!(f, "plan: route {number}: an accessory twice"),
+            PlanFault::NoWay(number) => {
+                write!(f, "plan: route {number}: no track leads over its turnouts")
+            }
             PlanFault::Mixed(number, other) => {
                 write!(
                     f,
@@ -77,6 +94,16 @@ impl<T: Drop> From<AllocFailed<T>> for PlanFault {
     ghost from_gives = { λ _ e. e ≡ fault.Memory };
 
     fn from(_refused: AllocFailed<T>) -> PlanFault {
+        PlanFault::Memory
+    }
+}
+
+impl From<AllocError> for PlanFault {
+    ghost use Rattle.srcp_plan_file.specs.declared.plan.PlanFault.TheVariants as fault;
+
+    ghost from_gives = { λ _ e. e ≡ fault.Memory };
+
+    fn from(_refused: AllocError) -> PlanFault {
         PlanFault::Memory
     }
 }

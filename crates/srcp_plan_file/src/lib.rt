@@ -5,12 +5,20 @@
 //! none of the program's words.
 #![tactic(auto)]
 
+mod device;
 mod document;
+mod drawing;
+mod element;
 mod fault;
+mod join;
+mod keys;
 pub mod laws;
 mod plan;
 mod print;
+mod tracks;
+mod way;
 
 pub use document::read_plan;
 pub use plan::{Field, Plan, PlanFault};
 pub use print::print_plan;
+pub use tracks::Tracks;

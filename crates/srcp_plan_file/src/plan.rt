@@ -1,5 +1,6 @@
 //! The content of a plan, and the reasons to refuse one.
 
+use crate::tracks::Tracks;
 use srcp_routes::Route;
 use std::vec::Vec;
 use thiserror::Error;
@@ -9,6 +10,8 @@ use thiserror::Error;
 pub struct Plan {
     /// The routes' own bus: there routes are asked for and told, and no device of a route is on this bus.
     pub bus: u8,
+    /// The tracks as they are drawn.
+    pub tracks: Tracks,
     /// The routes, in the order of the document.
     pub routes: Vec<Route>,
 }
@@ -23,6 +26,16 @@ pub enum Field {
     Blocks,
     Signal,
     Frees,
+    Plan,
+    Legend,
+    From,
+    To,
+    Turnout,
+    Sensor,
+    Button,
+    Names,
+    Functions,
+    Name,
 }
 
 /// Says why a plan is refused.
@@ -34,12 +47,18 @@ pub enum PlanFault {
     Missing(Field),
     /// The key's value is of another type or beyond the key's limits.
     OutOfRange(Field),
+    /// A key is none of a plan.
+    Unknown,
     /// Two routes have this number.
     Twice(u32),
     /// In the route of this number the key's value is of another type, beyond the limits, or on the routes' own bus.
     Beyond(u32, Field),
+    /// A key of the route of this number is none of a route.
+    UnknownIn(u32),
     /// The route of this number names an accessory twice.
     Repeated(u32),
+    /// No track of the drawing leads from one end of the route of this number to the other over its turnouts.
+    NoWay(u32),
     /// The signal of either of these routes is a turnout of the other.
     Mixed(u32, u32),
     /// A port of a signal shows "go" for either of these routes and "stop" for the other.

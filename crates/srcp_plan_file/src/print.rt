@@ -2,19 +2,23 @@
 
 ghost use Rattle.std.specs.Prelude.{◌≡◌, ◌++◌, OnOk, IfOk, string_bytes};
 ghost use Rattle.std.specs.List.{flat_map};
-ghost use Rattle.srcp_plan_file.specs.Output.{bus_line, conflict_line, conflict_lines, line_of, more, number_line};
-ghost use Rattle.srcp_plan_file.specs.Output.{printed, route_line};
+ghost use Rattle.srcp_plan_file.specs.Output.{bus_line, conflict_line, conflict_lines, line_of, more, printed};
+ghost use Rattle.srcp_plan_file.specs.Output.{route_line};
 
+mod route;
 mod shared;
 
+use crate::drawing::Piece;
 use crate::plan::Plan;
+use route::print_route;
 use shared::{Shared, shared_devices};
 use srcp_routes::Route;
 use std::alloc::{AllocError, Global};
 use std::vec::Vec;
 
-/// Returns the locking table of a plan: the routes' own bus, the number of each route, and a line for each two
-/// conflicting routes. The line says by which turnouts, signal and blocks of the first the two conflict.
+/// Returns the locking table of a plan: the routes' own bus, and the number of each route with the elements on its way.
+/// Then comes a line for each two conflicting routes. The line says by which turnouts, signal, blocks and piece of
+/// track of the first the two conflict.
 ///
 /// # Errors
 /// Fails if memory is refused.
@@ -23,8 +27,9 @@ pub fn print_plan(alloc: Global, plan: &Plan) -> Result<Vec<u8>, AllocError>
 {
     let mut text = Vec::new(alloc);
     print_bus(alloc, plan.bus, &mut text)?;
-    print_routes(alloc, &plan.routes, &mut text)?;
-    print_conflicts(alloc, &plan.routes, &mut text)?;
+    let (drawing, drawn) = (&plan.tracks.text, &plan.tracks.pieces);
+    print_routes(alloc, drawing, drawn, &plan.routes, &mut text)?;
+    print_conflicts(alloc, drawn, &plan.routes, &mut text)?;
     Ok(text)
 }
 
@@ -35,28 +40,32 @@ fn print_bus(alloc: Global, bus: u8, text: &mut Vec<u8>) -> Result<(), AllocErro
     text.extend_from_slice(line.as_bytes())
 }
 
-fn print_routes(alloc: Global, routes: &[Route], text: &mut Vec<u8>) -> Result<(), AllocError>
-    ensures { OnOk result (text.new.items ≡ text.old.items ++ flat_map route_line routes.now) }
+fn print_routes(
+    alloc: Global,
+    drawing: &[u8],
+    drawn: &[Piece],
+    routes: &[Route],
+    text: &mut Vec<u8>,
+) -> Result<(), AllocError>
+    ensures { OnOk result (text.new.items ≡ text.old.items ++ flat_map (route_line drawing.now drawn.now) routes.now) }
 {
     for route in routes {
-        print_route(alloc, route.number, text)?;
+        print_route(alloc, drawing, drawn, route, text)?;
     }
     Ok(())
 }
 
-fn print_route(alloc: Global, number: u32, text: &mut Vec<u8>) -> Result<(), AllocError>
-    ensures { OnOk result (text.new.items ≡ text.old.items ++ number_line number) }
-{
-    let line = format!(in alloc; "route {number}\n")?;
-    text.extend_from_slice(line.as_bytes())
-}
-
 /// Prints a line for each two conflicting routes.
-fn print_conflicts(alloc: Global, routes: &[Route], text: &mut Vec<u8>) -> Result<(), AllocError>
-    ensures { OnOk result (text.new.items ≡ text.old.items ++ conflict_lines routes.now) }
+fn print_conflicts(
+    alloc: Global,
+    drawn: &[Piece],
+    routes: &[Route],
+    text: &mut Vec<u8>,
+) -> Result<(), AllocError>
+    ensures { OnOk result (text.new.items ≡ text.old.items ++ conflict_lines drawn.now routes.now) }
 {
     for n in 0..routes.len() {
-        print_conflicts_of(alloc, &routes[n], &routes[n + 1..], text)?;
+        print_conflicts_of(alloc, drawn, &routes[n], &routes[n + 1..], text)?;
     }
     Ok(())
 }
@@ -64,14 +73,15 @@ fn print_conflicts(alloc: Global, routes: &[Route], text: &mut Vec<u8>) -> Resul
 /// Prints a line for each of the others with which a route conflicts.
 fn print_conflicts_of(
     alloc: Global,
+    drawn: &[Piece],
     route: &Route,
     others: &[Route],
     text: &mut Vec<u8>,
 ) -> Result<(), AllocError>
-    ensures { OnOk result (text.new.items ≡ text.old.items ++ flat_map (conflict_line route.now) others.now) }
+    ensures { OnOk result (text.new.items ≡ text.old.items ++ flat_map (conflict_line drawn.now route.now) others.now) }
 {
     for other in others {
-        print_conflict(alloc, route, other, text)?;
+        print_conflict(alloc, drawn, route, other, text)?;
     }
     Ok(())
 }
@@ -79,13 +89,14 @@ fn print_conflicts_of(
 /// Prints by what two routes conflict, if they do.
 fn print_conflict(
     alloc: Global,
+    drawn: &[Piece],
     route: &Route,
     other: &Route,
     text: &mut Vec<u8>,
 ) -> Result<(), AllocError>
-    ensures { OnOk result (text.new.items ≡ text.old.items ++ conflict_line route.now other.now) }
+    ensures { OnOk result (text.new.items ≡ text.old.items ++ conflict_line drawn.now route.now other.now) }
 {
-    let devices = shared_devices(alloc, route, other)?;
+    let devices = shared_devices(alloc, drawn, route, other)?;
     print_shared(alloc, route.number, other.number, &devices, text)
 }
 

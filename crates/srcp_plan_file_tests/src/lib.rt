@@ -2,4 +2,6 @@
 #![tactic(auto)]
 
 #[cfg(test)]
+mod drawings;
+#[cfg(test)]
 mod plans;

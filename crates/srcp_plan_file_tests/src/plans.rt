@@ -6,7 +6,7 @@ use std::process::Abort;
 use std::string::String;
 
 /// Returns the locking table of a plan, or the text of the plan's fault.
-fn told(alloc: Global, document: &str) -> Option<String> {
+pub(crate) fn told(alloc: Global, document: &str) -> Option<String> {
     match read_plan(alloc, document.as_bytes()) {
         Ok(plan) => {
             let text = print_plan(alloc, &plan).ok()?;
@@ -17,7 +17,7 @@ fn told(alloc: Global, document: &str) -> Option<String> {
 }
 
 /// Asserts what each of these documents prints.
-fn assert_told(rt: &impl Abort, alloc: Global, documents: &[(&str, &str)]) {
+pub(crate) fn assert_told(rt: &impl Abort, alloc: Global, documents: &[(&str, &str)]) {
     for (document, wanted) in documents {
         match told(alloc, document) {
             Some(text) => assert_eq!(rt; text.as_str(), *wanted),
@@ -63,6 +63,7 @@ route 1 conflicts with route 3: signal 1 40
 fn names_the_first_fault(rt: HostRuntime) {
     let refused = [
         ("bus =", "plan: not TOML"),
+        ("routes = []", "plan: a key that is none of a plan"),
         ("", "plan: bus missing"),
         ("bus = 0", "plan: bus out of range"),
         ("bus = 251", "plan: bus out of range"),
@@ -81,6 +82,10 @@ fn names_the_first_fault(rt: HostRuntime) {
         (
             "bus = 9\nroute = [{number = 3}, {number = 3}]",
             "plan: route 3 twice",
+        ),
+        (
+            "bus = 9\nroute = [{number = 3, block = [[1, 5]]}]",
+            "plan: route 3: a key that is none of a route",
         ),
     ];
     assert_told(&rt, rt.alloc(), &refused);

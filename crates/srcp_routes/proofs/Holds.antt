@@ -3,12 +3,13 @@ use Rattle.std.proofs.Common.{◌≡◌, true, false, List, [], ◌∷◌, refl}
 use Rattle.std.specs.Prelude.{fold, is_some, map}
 use Rattle.srcp_routes.specs.Laws.{AreApart}
 use Rattle.srcp_routes.specs.Plan.{stage_at}
-use Rattle.srcp_routes.specs.Runs.{Run, granted, has_signal, heard_of, lit, put, run, run_after, run_start, stopped}
+use Rattle.srcp_routes.specs.Runs.{Run, granted, has_signal, heard_of, lit, put, run, run_after, run_start, stopped, told_heard}
 use Rattle.srcp_routes.specs.Stages.{is_held, lost_stage}
 use Rattle.srcp_routes.specs.Steps.{due, heard}
 use Rattle.srcp_routes.specs.declared.interlocking.Event.{Event}
 use Rattle.srcp_routes.specs.declared.route.Route.{Route}
 use Rattle.srcp_routes.proofs.Apart.{after_apart, stage_at-start, start_apart}
+use Rattle.srcp_routes.proofs.Crossings.{AllTold, heard_told, next_told}
 use Rattle.srcp_routes.proofs.Free.{IsFreeRightly, after_free, start_free}
 use Rattle.srcp_routes.proofs.Locks.{AllLocked, heard_locked, locks_held, next_locked}
 use Rattle.srcp_routes.proofs.Pending.{Fits, Pends, after_fits, heard_fits, start_fits, step_pends}
@@ -27,6 +28,7 @@ pub record Holds (routes : List Route) (r : Run) : Type 0 where
   pub lit : AllLit r.table.routes r.table.stages r.lit
   pub may_go : AllGo true r.table.routes r.table.stages r.may_go
   pub free : IsFreeRightly r.table.sensors r.free
+  pub told : AllTold r.table.stages r.told
 
 pub after_holds : (routes : List Route) (r : Run) (event : Event) → Holds routes r → Holds routes (run_after r event)
 after_holds routes r event holds = record {
@@ -51,6 +53,9 @@ after_holds routes r event holds = record {
       (is_some (heard r.table event).waiting) (due (heard r.table event)) (heard_fits routes r.table event holds.fits) refl
       (heard_may_go r event holds.pends holds.may_go);
   free = after_free r.table event r.free holds.free;
+  told = next_told routes (heard r.table event) (told_heard r event) (is_some (heard r.table event).waiting)
+      (due (heard r.table event)) (heard_fits routes r.table event holds.fits) refl
+      (heard_told r event holds.pends holds.told);
 }
 
 pub start_holds : (routes : List Route) → Holds routes (run_start routes)
@@ -67,6 +72,7 @@ start_holds routes = record {
   lit = start_lit routes;
   may_go = start_may_go routes;
   free = start_free routes;
+  told = λ n h. absurd (cc);
 }
 
 fold_holds : (routes : List Route) (r : Run) (events : List Event) → Holds routes r → Holds routes (fold run_after r events)

@@ -3,6 +3,8 @@ pub mod Apart
 pub mod Asked
 pub mod Causes
 pub mod Costs
+pub mod Crossed
+pub mod Crossings
 pub mod Free
 pub mod Given
 pub mod Holds

@@ -7,7 +7,7 @@ use Rattle.std.proofs.lemmas.Option.{slice_get_within}
 use Rattle.std.specs.List.{list_any}
 use Rattle.std.specs.Option.{option_map, option_map_or}
 use Rattle.std.specs.Prelude.{if◌then◌else◌, map, nat_lt, slice_get, slice_set}
-use Rattle.srcp_routes.specs.Conflicts.{are_free, blocks_meet, conflicts, has_turnout, is_same, is_signal, meets}
+use Rattle.srcp_routes.specs.Conflicts.{are_free, blocks_meet, conflicts, has_turnout, is_same, is_signal, meets, pieces_meet}
 use Rattle.srcp_routes.specs.Conflicts.{signal_meets, turnouts_meet, uses}
 use Rattle.srcp_routes.specs.Laws.{AreApart}
 use Rattle.srcp_routes.specs.Plan.{Table, conflict_at, stage_at, wanted_at}
@@ -258,7 +258,7 @@ any_at test [] k x at h = absurd (cc)
 any_at test (y ∷ ys) zero x at h = let same : y ≡ x = cc in or_left (test y) (list_any test ys) (ap test same ∙ h)
 any_at test (y ∷ ys) (suc k) x at h = or_right (test y) (list_any test ys) (any_at test ys k x at h)
 
-conflict_of : (routes : List Route) (n m : ℕ) (a b : Route) → slice_get routes n ≡ Some a → slice_get routes m ≡ Some b
+pub conflict_of : (routes : List Route) (n m : ℕ) (a b : Route) → slice_get routes n ≡ Some a → slice_get routes m ≡ Some b
     → conflict_at routes n m ≡ conflicts a b
 conflict_of routes n m a b is is' = rw (is, is') refl
 
@@ -266,8 +266,8 @@ pub share : (routes : List Route) (n m : ℕ) (a b : Route) (i j : ℕ) (x y : S
     → slice_get routes m ≡ Some b → turnout_at a i ≡ Some x → turnout_at b j ≡ Some y
     → is_same y.device x.device ≡ true → conflict_at routes n m ≡ true
 share routes n m a b i j x y is is' at at' same = conflict_of routes n m a b is is'
-    ∙ or_left (meets a b) (meets b a) (or_right (signal_meets a b) (turnouts_meet a b || blocks_meet a b)
-    (or_left (turnouts_meet a b) (blocks_meet a b)
+    ∙ or_left (meets a b) (meets b a) (or_right (signal_meets a b) (turnouts_meet a b || (blocks_meet a b || pieces_meet a b))
+    (or_left (turnouts_meet a b) (blocks_meet a b || pieces_meet a b)
     (any_at (λ (turnout : Setting). uses b turnout.device) a.turnouts.items i x at
     (or_right (is_signal b x.device) (has_turnout b x.device)
     (any_at (λ (turnout : Setting). is_same turnout.device x.device) b.turnouts.items j y at' same)))))

@@ -9,7 +9,7 @@ use Rattle.srcp_routes.specs.Laws.{IsShownRightly, IsThrownAndLocked, IsToldRigh
 use Rattle.srcp_routes.specs.Laws.{ShowsAreFree, touched}
 use Rattle.srcp_routes.specs.Plan.{Table, is_clear, stage_at, wanted_at}
 use Rattle.srcp_routes.specs.Runs.{Run, run, run_after}
-use Rattle.srcp_routes.specs.Stages.{is_idle, order_of, ready_stage, turnout_at}
+use Rattle.srcp_routes.specs.Stages.{is_idle, ready_stage, turnout_at}
 use Rattle.srcp_routes.specs.Steps.{due, heard, may_begin, ready_at, sent}
 use Rattle.srcp_routes.specs.declared.interlocking.Event.{Event}
 use Rattle.srcp_routes.specs.declared.route.Device.{Device}
@@ -20,6 +20,7 @@ use Rattle.srcp_routes.specs.declared.route.Setting.{Setting}
 use Rattle.srcp_routes.specs.declared.route.Signal.{Signal}
 use Rattle.srcp_routes.specs.declared.stage.Stage.{Stage}
 use Rattle.srcp_routes.specs.declared.stage.Stage.TheVariants as stage
+use Rattle.srcp_routes.proofs.Crossings.{tells}
 use Rattle.srcp_routes.proofs.Free.{heard_free}
 use Rattle.srcp_routes.proofs.Holds.{Holds, run_holds}
 use Rattle.srcp_routes.proofs.Locks.{has_lock}
@@ -27,7 +28,7 @@ use Rattle.srcp_routes.proofs.Pending.{Fits, Pends, PendsAt, Sends, due_sends, h
 use Rattle.srcp_routes.proofs.Signals.{GoesAt, Shows, shows}
 use Rattle.srcp_routes.proofs.Thrown.{has_thrown}
 use Rattle.srcp_routes.proofs.Told.{is_told}
-use Rattle.srcp_routes.proofs.Touched.{Touches, goes, no_order, touch_other, touches}
+use Rattle.srcp_routes.proofs.Touched.{Touches, goes, touch_other, touches}
 
 -- a route whose signal was shown has locked and thrown all its turnouts
 goes_locked : (s : Stage) (k : ℕ) → goes false s ≡ true → has_lock s k ≡ true
@@ -46,7 +47,7 @@ goes_thrown stage.Stopping k h = refl
 goes_thrown stage.Stuck k h = refl
 goes_thrown other k h = absurd (cc)
 
-in_plan : (routes : List Route) (t : Table) (n : ℕ) (route : Route) → Fits routes t → slice_get routes n ≡ Some route
+pub in_plan : (routes : List Route) (t : Table) (n : ℕ) (route : Route) → Fits routes t → slice_get routes n ≡ Some route
     → slice_get t.routes n ≡ Some route
 in_plan routes t n route fits is = ap (λ (x : List Route). slice_get x n) fits.plan ∙ is
 
@@ -59,20 +60,6 @@ stands routes r n route place turnout holds h is at =
       locked = holds.locked n route place turnout here at (goes_locked (stage_at r.table.stages n) place may.goes);
       thrown = holds.thrown n route place turnout here at (goes_thrown (stage_at r.table.stages n) place may.goes);
     }
-
--- a route is told to be set at the stage at which it reports so
-tells : (route : Route) (s : Stage) (number : ℕ) → order_of route s ≡ Some (order.Report number true)
-    → (s ≡ stage.Reporting) × (route.number ≡ number)
-tells route stage.Reporting number e = (refl, cc)
-tells route stage.Clearing number e = no_order _ route.signal (order.Report number true) _ (λ y h. cc) e
-tells route stage.Showing number e = no_order _ route.signal (order.Report number true) _ (λ y h. cc) e
-tells route stage.Stopping number e = no_order _ route.signal (order.Report number true) _ (λ y h. cc) e
-tells route (stage.Locking done) number e =
-    no_order (λ (x : Setting). order.Lock x.device) (turnout_at route done) (order.Report number true) _ (λ y h. cc) e
-tells route (stage.Throwing done) number e = no_order order.Throw (turnout_at route done) (order.Report number true) _ (λ y h. cc) e
-tells route (stage.Unlocking left) number e =
-    no_order (λ (x : Setting). order.Unlock x.device) (turnout_at route left) (order.Report number true) _ (λ y h. cc) e
-tells route other number e = absurd (cc)
 
 told_rightly : (routes : List Route) (r : Run) (number n : ℕ) → Holds routes r → r.table.waiting ≡ Some n
     → (pends : PendsAt r.table r.order n) → (stage_at r.table.stages n ≡ stage.Reporting) × (pends.route.number ≡ number)

@@ -1,5 +1,5 @@
 -- Which routes conflict, and which sensors are free.
-use Rattle.std.specs.Prelude.{◌==◌, Bool, true, false, ◌&&◌, ◌||◌, List, ◌++◌, map}
+use Rattle.std.specs.Prelude.{ℕ, ◌==◌, Bool, true, false, ◌&&◌, ◌||◌, List, ◌++◌, map}
 use Rattle.std.specs.Prelude.{if◌then◌else◌, option_to_list}
 use Rattle.std.specs.List.{flat_map, list_any, list_all}
 use Rattle.std.specs.Option.{option_map_or}
@@ -32,6 +32,10 @@ uses route device = is_signal route device || has_turnout route device
 abbrev pub has_block : Route → Device → Bool
 has_block route sensor = list_any (λ block. is_same block sensor) route.blocks.items
 
+-- this piece of track is one of a route
+abbrev pub has_piece : Route → ℕ → Bool
+has_piece route piece = list_any (λ own. own == piece) route.pieces.items
+
 abbrev pub signal_meets : Route → Route → Bool
 signal_meets route other = option_map_or (λ (signal : Signal). uses other signal.device) route.signal false
 
@@ -41,11 +45,15 @@ turnouts_meet route other = list_any (λ (turnout : Setting). uses other turnout
 abbrev pub blocks_meet : Route → Route → Bool
 blocks_meet route other = list_any (λ block. has_block other block) route.blocks.items
 
--- an accessory or a block of one route is one of the other
-abbrev pub meets : Route → Route → Bool
-meets route other = signal_meets route other || (turnouts_meet route other || blocks_meet route other)
+abbrev pub pieces_meet : Route → Route → Bool
+pieces_meet route other = list_any (λ piece. has_piece other piece) route.pieces.items
 
--- two routes share a turnout, a signal or a block
+-- an accessory, a block or a piece of track of one route is one of the other
+abbrev pub meets : Route → Route → Bool
+meets route other = signal_meets route other
+    || (turnouts_meet route other || (blocks_meet route other || pieces_meet route other))
+
+-- two routes share a turnout, a signal, a block or a piece of track
 abbrev pub conflicts : Route → Route → Bool
 conflicts route other = meets route other || meets other route
 

@@ -28,6 +28,17 @@ AreApart t = (n m : ℕ) → n ≢ m → conflict_at t.routes n m ≡ true → i
 abbrev pub HeldStandAlone : Type 0
 HeldStandAlone = (routes : List Route) (events : List Event) → AreApart (course routes events)
 
+-- a route is set by events alone: its signal was shown and not stopped since, or it is told to be set
+abbrev pub is_set : Run → ℕ → Bool
+is_set r n = r.shown n || r.told n
+
+-- no piece of track is one of two routes that are set
+abbrev pub CrossApart : Type 0
+CrossApart = (routes : List Route) (events : List Event) (n m : ℕ) (route other : Route) (k j piece : ℕ) → n ≢ m
+    → slice_get routes n ≡ Some route → slice_get routes m ≡ Some other
+    → is_set (run routes events) n ≡ true → is_set (run routes events) m ≡ true
+    → slice_get route.pieces.items k ≡ Some piece → slice_get other.pieces.items j ≢ Some piece
+
 -- ---- turnouts
 
 -- a turnout is thrown rightly: the route that throws it wants it so, and holds its lock

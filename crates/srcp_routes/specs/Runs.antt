@@ -28,7 +28,8 @@ Signals = ℕ → Bool
 -- a run so far: its table, the last order if its reply has not come, the locks, and what was thrown under them; which
 -- signals this session has shown and not stopped, which signals may show "go", and which do since that was accepted;
 -- which sensors are free or occupied; which routes were given back since this session has shown their signals, and
--- before these are stopped; which routes are asked for, and which were given back or refused and not asked for since
+-- before these are stopped; which routes are asked for, and which were given back or refused and not asked for since;
+-- which routes this session has told to be set
 pub record Run : Type 0 where
   pub table : Table
   pub order : Option Order
@@ -42,6 +43,7 @@ pub record Run : Type 0 where
   pub left : Signals
   pub asks : Signals
   pub given : Signals
+  pub told : Signals
 
 -- the locks once the order of a route is accepted: a lock is granted
 abbrev pub granted : Locks → ℕ → Order → Locks
@@ -140,6 +142,23 @@ given_heard r (Reply false) n = option_map_or (λ m. n == m) r.table.waiting fal
 given_heard r Lost n = true
 given_heard r other n = r.given n
 
+-- the routes that are told to be set once the order of a route has its reply
+abbrev pub hidden : Signals → ℕ → Order → Signals
+hidden told n (order.Report number false) m = not (m == n) && told m
+hidden told n other m = told m
+
+-- the routes that are told to be set once an event came: no longer after the reply to the order that tells that a route
+-- is not set, or as a session begins
+abbrev pub told_heard : Run → Event → Signals
+told_heard r (Reply ok) = option_map_or (λ n. option_map_or (hidden r.told n) r.order r.told) r.table.waiting r.told
+told_heard r Lost = λ m. false
+told_heard r other = r.told
+
+-- and once an order is sent
+abbrev pub told_sent : Signals → Option Order → Option ℕ → Signals
+told_sent told (Some (order.Report number true)) waiting m = option_map_or (λ n. m == n) waiting false || told m
+told_sent told other waiting m = told m
+
 -- the order whose reply has not come once an event came
 abbrev pub order_heard : Option Order → Event → Option Order
 order_heard last (Reply ok) = None
@@ -163,6 +182,7 @@ goes_on r event stepped = record {
   left = left_heard r event;
   asks = asks_heard r event;
   given = given_heard r event;
+  told = told_sent (told_heard r event) stepped.order stepped.table.waiting;
 }
 
 abbrev pub run_after : Run → Event → Run
@@ -183,6 +203,7 @@ run_start routes = record {
   left = λ m. false;
   asks = λ m. false;
   given = λ m. true;
+  told = λ m. false;
 }
 
 -- a run of a plan over a list of events

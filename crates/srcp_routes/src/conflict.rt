@@ -1,9 +1,10 @@
 //! Which routes conflict, and which sensors are free.
 
 ghost use Rattle.std.specs.Prelude.{◌≡◌, ◌++◌, IfOk, OnOk, map};
-ghost use Rattle.srcp_routes.specs.Conflicts.{is_same, has_accessory, is_signal, uses, has_block, signal_meets};
-ghost use Rattle.srcp_routes.specs.Conflicts.{turnouts_meet, blocks_meet, meets, conflicts, is_free, are_free};
-ghost use Rattle.srcp_routes.specs.Conflicts.{is_occupied, told_sensor, unknown, route_sensors, sensors_of};
+ghost use Rattle.srcp_routes.specs.Conflicts.{is_same, has_accessory, is_signal, uses, has_block, has_piece};
+ghost use Rattle.srcp_routes.specs.Conflicts.{signal_meets, turnouts_meet, blocks_meet, pieces_meet, meets, conflicts};
+ghost use Rattle.srcp_routes.specs.Conflicts.{is_free, are_free, is_occupied, told_sensor, unknown, route_sensors};
+ghost use Rattle.srcp_routes.specs.Conflicts.{sensors_of};
 
 use crate::{Device, Occupancy, Route, Setting};
 use std::alloc::{AllocError, Global};
@@ -58,6 +59,13 @@ pub fn has_block(route: &Route, sensor: Device) -> bool
     route.blocks.iter().any(|block| is_same(*block, sensor))
 }
 
+/// Returns whether this piece of track is one of a route.
+pub fn has_piece(route: &Route, piece: usize) -> bool
+    ensures { result ≡ has_piece route.now piece }
+{
+    route.pieces.iter().any(|own| *own == piece)
+}
+
 /// Returns whether the signal of one route is an accessory of the other.
 fn signal_meets(route: &Route, other: &Route) -> bool
     ensures { result ≡ signal_meets route.now other.now }
@@ -85,14 +93,24 @@ fn blocks_meet(route: &Route, other: &Route) -> bool
     route.blocks.iter().any(|block| has_block(other, *block))
 }
 
-/// Returns whether the signal, a turnout or a block of one route belongs to the other too.
+/// Returns whether the routes share a piece of track.
+fn pieces_meet(route: &Route, other: &Route) -> bool
+    ensures { result ≡ pieces_meet route.now other.now }
+{
+    route.pieces.iter().any(|piece| has_piece(other, *piece))
+}
+
+/// Returns whether the signal, a turnout, a block or a piece of track of one route belongs to the other too.
 fn meets(route: &Route, other: &Route) -> bool
     ensures { result ≡ meets route.now other.now }
 {
-    signal_meets(route, other) || turnouts_meet(route, other) || blocks_meet(route, other)
+    signal_meets(route, other)
+        || turnouts_meet(route, other)
+        || blocks_meet(route, other)
+        || pieces_meet(route, other)
 }
 
-/// Returns whether two routes share a turnout, a signal or a block.
+/// Returns whether two routes share a turnout, a signal, a block or a piece of track.
 pub(crate) fn conflicts(route: &Route, other: &Route) -> bool
     ensures { result ≡ conflicts route.now other.now }
 {

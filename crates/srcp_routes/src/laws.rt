@@ -1,12 +1,21 @@
 //! Laws of every list of events. Each function does nothing: its `ensures` is the law.
 
-ghost use Rattle.srcp_routes.specs.Laws.{AskedAreServed, GivenEnd, HeldStandAlone, LeftEnds, RepliesSettle, SetIsTold};
-ghost use Rattle.srcp_routes.specs.Laws.{ShownAreKept, ShownStand, ShowsAreFree, ThrowsAreLocked, WantedAreServed};
+ghost use Rattle.srcp_routes.specs.Laws.{AskedAreServed, CrossApart, GivenEnd, HeldStandAlone, LeftEnds, RepliesSettle};
+ghost use Rattle.srcp_routes.specs.Laws.{SetIsTold, ShownAreKept, ShownStand, ShowsAreFree, ThrowsAreLocked};
+ghost use Rattle.srcp_routes.specs.Laws.{WantedAreServed};
 
 /// States for any plan and any list of events: while a route is held, each other route that conflicts is idle. No two
 /// routes that conflict are held at once.
 pub fn held_stand_alone()
     ensures { HeldStandAlone }
+{}
+
+/// States for any plan and any list of events: two routes that are set have no piece of track in common. A route is set
+/// while its signal shows "go". The signal does so from the order that shows it until the reply that accepts a stop. A
+/// route is also set from the order that tells so until the reply to the order that tells the opposite. A route is set
+/// no longer than its session lasts.
+pub fn cross_apart()
+    ensures { CrossApart }
 {}
 
 /// States for any plan and any list of events how a turnout is thrown. The port is the port that the throwing route

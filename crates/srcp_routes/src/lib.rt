@@ -12,7 +12,7 @@ mod route;
 mod stage;
 mod table;
 
-pub use conflict::{has_accessory, has_block, is_same, uses};
+pub use conflict::{has_accessory, has_block, has_piece, is_same, uses};
 pub use interlocking::{Event, Interlocking};
 pub use route::{Device, Occupancy, Order, Route, Setting, Signal};
 pub use stage::Stage;

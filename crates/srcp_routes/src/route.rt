@@ -78,7 +78,7 @@ impl Occupancy {
 /// Describes a route.
 ///
 /// ```
-/// let route = Route { number: 1, turnouts, blocks, signal: None, frees: None };
+/// let route = Route { number: 1, turnouts, blocks, signal: None, frees: None, pieces };
 /// routes.push(route)?;
 /// let mut interlocking = Interlocking::new(alloc, routes)?;
 /// ```
@@ -94,6 +94,8 @@ pub struct Route {
     pub signal: Option<Signal>,
     /// The sensor that gives the route back as the sensor falls from 1 to 0, if any.
     pub frees: Option<Device>,
+    /// The pieces of track of the route's way, by their numbers in a drawing.
+    pub pieces: Vec<usize>,
 }
 
 /// Says what a route commands.

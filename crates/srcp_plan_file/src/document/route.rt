@@ -3,13 +3,14 @@
 ghost use Rattle.std.specs.Prelude.{◌≡◌, [], map, option_map};
 ghost use Rattle.toml.specs.View.{table_view, view as data_of};
 ghost use Rattle.srcp_layout_file.specs.Gives.{Gives, Shows};
-ghost use Rattle.srcp_plan_file.specs.Document.{array_if, blocks_in, frees_at, new_signal, new_turnout};
+ghost use Rattle.srcp_plan_file.specs.Document.{array_if, blocks_in, frees_at, new_signal, new_turnout, pieces_at};
 ghost use Rattle.srcp_plan_file.specs.Document.{route_numbered, sensor_in, signal_at, signal_in};
 ghost use Rattle.srcp_plan_file.specs.Document.{turnout_in, turnouts_in};
-ghost use Rattle.srcp_plan_file.specs.Plan.{planned_route};
+ghost use Rattle.srcp_plan_file.specs.Plan.{drawn, planned_route};
 
-use super::device::{sensor_of, signal_of, turnout_of};
+use crate::device::{sensor_of, signal_of, turnout_of};
 use crate::plan::{Field, PlanFault};
+use crate::tracks::{Tracks, text_at};
 use srcp_layout_file::member::{array_in, value_at};
 use srcp_routes::{Device, Route, Setting, Signal, has_accessory};
 use std::alloc::Global;
@@ -21,10 +22,11 @@ pub(super) fn route_numbered(
     alloc: Global,
     own: u8,
     number: u32,
+    tracks: &Tracks,
     members: &Table,
 ) -> Result<Route, PlanFault>
     ensures { Gives planned_route PlanFault.Memory result
-        (route_numbered own number (table_view members.now)) }
+        (route_numbered own number (drawn tracks.now) (table_view members.now)) }
 {
     let values = array_if(number, members, Field::Turnouts)?;
     let turnouts = turnouts_in(alloc, own, number, values)?;
@@ -32,12 +34,14 @@ pub(super) fn route_numbered(
     let blocks = blocks_in(alloc, own, number, values)?;
     let signal = signal_at(own, number, &turnouts, members)?;
     let frees = frees_at(own, number, members)?;
+    let pieces = pieces_at(alloc, number, tracks, &turnouts, members)?;
     Ok(Route {
         number,
         turnouts,
         blocks,
         signal,
         frees,
+        pieces,
     })
 }
 
@@ -167,5 +171,28 @@ fn frees_at(own: u8, number: u32, members: &Table) -> Result<Option<Device>, Pla
     match value_at(members, Field::Frees) {
         Some(value) => Ok(Some(sensor_in(own, number, Field::Frees, value)?)),
         None => Ok(None),
+    }
+}
+
+/// Returns the pieces of track of a route's way. A route has none if nothing is drawn, or if the route names no ends.
+fn pieces_at(
+    alloc: Global,
+    number: u32,
+    tracks: &Tracks,
+    turnouts: &[Setting],
+    members: &Table,
+) -> Result<Vec<usize>, PlanFault>
+    ensures { Gives (λ pieces. pieces.items) PlanFault.Memory result
+        (pieces_at (drawn tracks.now) number turnouts.now (table_view members.now)) }
+{
+    if tracks.pieces.is_empty() {
+        return Ok(Vec::new(alloc));
+    }
+    match (text_at(members, Field::From), text_at(members, Field::To)) {
+        (Some(from), Some(to)) => match tracks.way_between(alloc, turnouts, from, to)? {
+            Some(pieces) => Ok(pieces),
+            None => Err(PlanFault::NoWay(number)),
+        },
+        _ => Ok(Vec::new(alloc)),
     }
 }

@@ -2,7 +2,7 @@
 
 ghost use Rattle.std.specs.Prelude.{◌≡◌, map};
 ghost use Rattle.toml.specs.View.{view as data_of};
-ghost use Rattle.srcp_plan_file.specs.Document.{device_of, other_bus, sensor_of, signal_of, signal_with, turnout_of};
+ghost use Rattle.srcp_plan_file.specs.Devices.{device_of, other_bus, sensor_of, signal_of, signal_with, turnout_of};
 
 use crate::plan::PlanFault;
 use srcp_info::{GREATEST_BUS, GREATEST_FB, GREATEST_GA, MOST_PORTS};
@@ -37,7 +37,7 @@ fn device_of(
 }
 
 /// Reads a turnout from its bus, its address and its port.
-pub(super) fn turnout_of(own: u8, values: &[Value], beyond: PlanFault) -> Result<Setting, PlanFault>
+pub(crate) fn turnout_of(own: u8, values: &[Value], beyond: PlanFault) -> Result<Setting, PlanFault>
     ensures { result ≡ turnout_of own beyond (map data_of values.now) }
 {
     match values {
@@ -51,7 +51,7 @@ pub(super) fn turnout_of(own: u8, values: &[Value], beyond: PlanFault) -> Result
 }
 
 /// Reads a sensor from its bus and its address.
-pub(super) fn sensor_of(own: u8, values: &[Value], beyond: PlanFault) -> Result<Device, PlanFault>
+pub(crate) fn sensor_of(own: u8, values: &[Value], beyond: PlanFault) -> Result<Device, PlanFault>
     ensures { result ≡ sensor_of own beyond (map data_of values.now) }
 {
     match values {
@@ -72,7 +72,7 @@ fn signal_with(device: Device, go: u8, stop: u8, beyond: PlanFault) -> Result<Si
 }
 
 /// Reads a signal from its bus, its address, and its ports for "go" and "stop".
-pub(super) fn signal_of(own: u8, values: &[Value], beyond: PlanFault) -> Result<Signal, PlanFault>
+pub(crate) fn signal_of(own: u8, values: &[Value], beyond: PlanFault) -> Result<Signal, PlanFault>
     ensures { result ≡ signal_of own beyond (map data_of values.now) }
 {
     match values {
