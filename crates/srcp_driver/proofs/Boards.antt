@@ -110,7 +110,8 @@ row_of s on false false t m e = inr (asked_of s.asked m)
 row_of s on false true t m e = absurd (cc)
 
 -- if nothing is asked, the board is as before, and no reply is waited for
-follows_of : (b : Board) (x y : Option Setting) (n : ℕ) (s : Switch) (on : Bool) → b.waiting ≡ y → first_setting is_switch_to_put b.switches ≡ x
+follows_of : (b : Board) (x y : Option Setting) (n : ℕ) (s : Switch) (on : Bool) → b.waiting ≡ y
+    → first_setting is_switch_to_put b.switches ≡ x
     → (if is_some y then None else x) ≡ None
     → (option_map_or (setting_put b) (if is_some y then None else x) b).waiting ≡ None
     → slice_get (option_map_or (setting_put b) (if is_some y then None else x) b).switches n ≡ Some s → s.command ≡ Some on

@@ -109,7 +109,8 @@ lost_off t event.Joined e = absurd (cc)
 lost_off t event.Ready e = absurd (cc)
 
 -- the power is off once a hand has switched it off
-cut_off : (t : Table) (here : Bool) → t.is_here ≡ here → here ≡ true → is_cut false t.power ≡ true → IsOff (happens t (event.SaidPower false))
+cut_off : (t : Table) (here : Bool) → t.is_here ≡ here → here ≡ true → is_cut false t.power ≡ true
+    → IsOff (happens t (event.SaidPower false))
 cut_off t here is h cut =
     subst (λ (b : Bool). IsOff (if b then switched t false else t)) (sym (is ∙ h))
     (ap (λ (b : Bool). (if b then record t.power { is_on = false; told = Some false; awaited = None; is_late = false }

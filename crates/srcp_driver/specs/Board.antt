@@ -5,7 +5,8 @@ use Rattle.std.specs.List.{position}
 use Rattle.std.specs.Option.{option_and_then, option_map, option_map_or}
 use Rattle.srcp_driver.specs.Cabs.{has_passed}
 use Rattle.srcp_driver.specs.Switches.{is_switch_to_put, is_to_tell, switch_aged, switch_asked, switch_forgotten}
-use Rattle.srcp_driver.specs.Switches.{switch_joined, switch_kept, switch_refused, switch_reported, switch_row, switch_told}
+use Rattle.srcp_driver.specs.Switches.{switch_joined, switch_kept, switch_refused, switch_reported, switch_row}
+use Rattle.srcp_driver.specs.Switches.{switch_told}
 use Rattle.srcp_driver.specs.Switches.{unknown}
 use Rattle.srcp_driver.specs.declared.settings.BoardEvent.{BoardEvent}
 use Rattle.srcp_driver.specs.declared.settings.BoardEvent.TheVariants as event
@@ -13,8 +14,8 @@ use Rattle.srcp_driver.specs.declared.settings.Kind.{Kind}
 use Rattle.srcp_driver.specs.declared.settings.Setting.{Setting}
 use Rattle.srcp_driver.specs.declared.switch.Switch.{Switch}
 
--- functions or turnouts, of which kind; whether the station is there; the order to the registry whose reply has not come;
--- the last moment; and the moment of the last order to the station, if there was one
+-- functions or turnouts, of which kind; whether the station is there; the order to the registry whose reply has not
+-- come; the last moment; and the moment of the last order to the station, if there was one
 pub record Board : Type 0 where
   pub switches : List Switch
   pub kind : Kind

@@ -12,8 +12,8 @@ use std::alloc::{AllocError, Global};
 use std::marker::Model;
 use std::vec::Vec;
 
-/// Tells a station of its functions, or of its turnouts, what the registry wants, and asks the registry to set what a hand
-/// has done: at most one order of each after an event.
+/// Tells a station of its functions, or of its turnouts, what the registry wants, and asks the registry to set what a
+/// hand has done: at most one order of each after an event.
 #[derive(Drop)]
 pub struct Switchboard {
     switches: Vec<Switch>,

@@ -128,8 +128,8 @@ impl Power {
         }
     }
 
-    /// Returns whether a report that the power is on, or off, says that a hand has switched it off: the station was told
-    /// last that it is on. The report may also come before the station has confirmed that.
+    /// Returns whether a report that the power is on, or off, says that a hand has switched it off: the station was
+    /// told last that it is on. The report may also come before the station has confirmed that.
     pub(crate) fn is_cut(self, is_on: bool) -> bool
         ensures { result ≡ is_cut is_on self }
     {

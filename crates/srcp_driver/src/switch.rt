@@ -3,7 +3,8 @@
 ghost use Rattle.std.specs.Prelude.{◌≡◌};
 ghost use Rattle.srcp_driver.specs.Powers.{is_told};
 ghost use Rattle.srcp_driver.specs.Switches.{is_due, is_switch_to_put, is_to_tell, switch_aged, switch_asked};
-ghost use Rattle.srcp_driver.specs.Switches.{switch_forgotten, switch_joined, switch_kept, switch_refused, switch_reported};
+ghost use Rattle.srcp_driver.specs.Switches.{switch_forgotten, switch_joined, switch_kept, switch_refused};
+ghost use Rattle.srcp_driver.specs.Switches.{switch_reported};
 ghost use Rattle.srcp_driver.specs.Switches.{switch_row, switch_told, unknown};
 
 use crate::changes::CONFIRMS;

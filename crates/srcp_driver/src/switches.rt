@@ -3,7 +3,8 @@
 ghost use Rattle.std.specs.Prelude.{◌≡◌, map};
 ghost use Rattle.std.specs.List.{position};
 ghost use Rattle.srcp_driver.specs.Board.{first_setting, setting_at};
-ghost use Rattle.srcp_driver.specs.Switches.{is_switch_to_put, is_to_tell, switch_aged, switch_forgotten, switch_joined};
+ghost use Rattle.srcp_driver.specs.Switches.{is_switch_to_put, is_to_tell, switch_aged, switch_forgotten};
+ghost use Rattle.srcp_driver.specs.Switches.{switch_joined};
 ghost use Rattle.srcp_driver.specs.Switches.{switch_kept};
 
 use crate::settings::Setting;

@@ -2,7 +2,8 @@
 
 ghost use Rattle.std.specs.Prelude.{◌≡◌};
 ghost use Rattle.srcp_driver.specs.Steps.{happens, is_old};
-ghost use Rattle.srcp_driver.specs.declared.event.Event.TheVariants.{Gone, Greeted, Joined, Lost, Moment, Reply, Row, Said};
+ghost use Rattle.srcp_driver.specs.declared.event.Event.TheVariants.{Gone, Greeted, Joined, Lost, Moment, Reply, Row};
+ghost use Rattle.srcp_driver.specs.declared.event.Event.TheVariants.{Said};
 ghost use Rattle.srcp_driver.specs.declared.event.Event.TheVariants.{SaidPower};
 ghost use Rattle.srcp_driver.specs.declared.event.Event.TheVariants as event;
 
