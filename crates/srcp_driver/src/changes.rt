@@ -37,9 +37,9 @@ impl Cab {
         self.is_held && (!self.is_refused || is_same(self.row, drive))
     }
 
-    /// Returns the locomotive once its row is this. A row that answers an order of this driver is no command. A row that
-    /// drives is none if it is old, or the locomotive is held. A row that rests is told again, so that a report of before
-    /// does not count.
+    /// Returns the locomotive once its row is this. A row that answers an order of this driver is no command. A row
+    /// that drives is none if it is old, or the locomotive is held. A row that rests is told again, so that a report of
+    /// before does not count.
     pub(crate) fn with_row(self, drive: Drive, is_old: bool) -> Cab
         ensures { result ≡ with_row drive is_old self }
     {
