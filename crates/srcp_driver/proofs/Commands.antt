@@ -89,6 +89,7 @@ row_of : (Q : Option Drive → Type 0) (drive : Drive) (old own denied : Bool) (
       is_held = denied;
       asked = still_asked cab.asked drive;
       is_refused = false;
+      told = if drives drive then cab.told else None;
     }).command
 row_of Q drive old true denied cab same none new = same refl
 row_of Q drive old false true cab same none new = none

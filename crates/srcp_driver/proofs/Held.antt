@@ -79,6 +79,7 @@ row_flags_of : (drive : Drive) (own denied : Bool) (cab : Cab) → denied ≡ tr
       is_held = denied;
       asked = still_asked cab.asked drive;
       is_refused = false;
+      told = if drives drive then cab.told else None;
     })
 row_flags_of drive true denied cab is e = record { held = e.held; asks = refl }
 row_flags_of drive false denied cab is e = record { held = is; asks = refl }

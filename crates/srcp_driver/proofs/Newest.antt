@@ -51,6 +51,7 @@ row_of : (row : Drive) (own denied : Bool) (cab : Cab) → (own ≡ true → ⊥
       is_held = denied;
       asked = still_asked cab.asked row;
       is_refused = false;
+      told = if drives row then cab.told else None;
     }).command
 row_of row true denied cab not-own never = absurd (not-own refl)
 row_of row false denied cab not-own never = first_of row false denied never

@@ -3,7 +3,7 @@ use Rattle.std.proofs.Common.{◌++◌, ◌==◌, [], ap, Bool, false, List, Non
 use Rattle.std.specs.Option.{option_map_or}
 use Rattle.std.specs.Prelude.{if◌then◌else◌, ◌||◌}
 use Rattle.srcp_driver.specs.Cabs.{handed, held, is_due, is_no_command, is_own, is_silent, refused, reported, still_asked, told, with_row}
-use Rattle.srcp_driver.specs.Drives.{is_alike, is_same}
+use Rattle.srcp_driver.specs.Drives.{drives, is_alike, is_same}
 use Rattle.srcp_driver.specs.Laws.{AreNo, is_row}
 use Rattle.srcp_driver.specs.Powers.{is_cut}
 use Rattle.srcp_driver.specs.Runs.{course, Made, order}
@@ -95,6 +95,7 @@ own_row : (drive : Drive) (old own denied : Bool) (cab : Cab) → HasRow drive
       is_held = denied;
       asked = still_asked cab.asked drive;
       is_refused = false;
+      told = if drives drive then cab.told else None;
     })
 own_row drive old true denied cab = refl
 own_row drive old false denied cab = refl

@@ -40,6 +40,12 @@ lost k cab e = record { does = inl refl; awaited = e.awaited; told_at = e.told_a
 begun : (k : Known) (cab : Cab) → Tied k cab → Tied (record k { does = None; awaited = None }) (forgotten cab)
 begun k cab e = record { does = inl refl; awaited = refl; told_at = e.told_at; since = e.since }
 
+-- a row that rests leaves what was told, or forgets it
+row_does : (b : Bool) (does told : Option Drive) → (told ≡ None) ⊎ (does ≡ told)
+    → ((if b then told else None) ≡ None) ⊎ (does ≡ (if b then told else None))
+row_does true does told e = e
+row_does false does told e = inl refl
+
 row_tied : (drive : Drive) (old : Bool) (k : Known) (cab : Cab) → Tied k cab → Tied k (with_row drive old cab)
 row_tied drive old k cab e = here_tied (is_own cab.asked drive) k
     (record cab { row = drive; asked = None; is_refused = false })
@@ -49,9 +55,10 @@ row_tied drive old k cab e = here_tied (is_own cab.asked drive) k
       is_held = is_no_command drive old cab;
       asked = still_asked cab.asked drive;
       is_refused = false;
+      told = if drives drive then cab.told else None;
     })
     (record { does = e.does; awaited = e.awaited; told_at = e.told_at; since = e.since })
-    (record { does = e.does; awaited = e.awaited; told_at = e.told_at; since = e.since })
+    (record { does = row_does (drives drive) k.does cab.told e.does; awaited = e.awaited; told_at = e.told_at; since = e.since })
 
 aged_tied : (now : ℕ) (k : Known) (cab : Cab) → Tied k cab → Tied k (aged now cab)
 aged_tied now k cab e = here_tied (is_due now cab) k (record cab { told = None; is_late = true }) cab

@@ -97,6 +97,10 @@ said_waits true true drive cab denied e = said_of drive cab cab.awaited cab.told
 said_waits true false drive cab denied e = e
 said_waits false b drive cab denied e = e
 
+row_unsure : (b : Bool) (told awaited : Option Drive) → IsUnsure told awaited → IsUnsure (if b then told else None) awaited
+row_unsure true told awaited e = e
+row_unsure false told awaited e = tt
+
 -- a row that is no command, or rests
 row_of : (drive : Drive) (own denied : Bool) (cab : Cab) → (own ≡ false → IsRest (if denied then None else Some drive)) → Waits cab
     → Waits (if own then record cab { row = drive; asked = None; is_refused = false }
@@ -106,9 +110,11 @@ row_of : (drive : Drive) (own denied : Bool) (cab : Cab) → (own ≡ false → 
       is_held = denied;
       asked = still_asked cab.asked drive;
       is_refused = false;
+      told = if drives drive then cab.told else None;
     })
 row_of drive true denied cab rests e = record { rests = e.rests; unsure = e.unsure }
-row_of drive false denied cab rests e = record { rests = rests refl; unsure = e.unsure }
+row_of drive false denied cab rests e =
+    record { rests = rests refl; unsure = row_unsure (drives drive) cab.told cab.awaited e.unsure }
 
 pub row_waits : (b : Bool) (drive : Drive) (old : Bool) (cab : Cab)
     → (b ≡ true → IsRest (if is_no_command drive old cab then None else Some drive)) → Waits cab

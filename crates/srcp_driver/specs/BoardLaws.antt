@@ -48,8 +48,8 @@ last_told count kind (turn ∷ past) =
 abbrev pub SettingsArePaced : Type 0
 SettingsArePaced = (count : ℕ) (kind : Kind) (past : List Turn) (turn : Turn)
     → is_some (setting_of count kind past turn) ≡ true
-    → option_map_or (λ last. has_passed kind.gap last (board_moment (turn ∷ past)))
-    (last_told count kind past) true ≡ true
+    → option_map_or (λ last. has_passed kind.gap last (board_moment (turn ∷ past))) (last_told count kind past) true
+    ≡ true
 
 -- once nothing is left to tell though an order may go, the station was told what is commanded, or has not confirmed
 -- what it was told before

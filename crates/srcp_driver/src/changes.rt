@@ -38,7 +38,8 @@ impl Cab {
     }
 
     /// Returns the locomotive once its row is this. A row that answers an order of this driver is no command. A row
-    /// that drives is none if it is old, or the locomotive is held.
+    /// that drives is none if it is old, or the locomotive is held. A row that rests is told again, so that a report of
+    /// before does not count.
     pub(crate) fn with_row(self, drive: Drive, is_old: bool) -> Cab
         ensures { result ≡ with_row drive is_old self }
     {
@@ -57,6 +58,7 @@ impl Cab {
                 is_held,
                 asked: self.still_asked(drive),
                 is_refused: false,
+                told: if drive.drives() { self.told } else { None },
                 ..self
             }
         }

@@ -5,5 +5,5 @@ use Rattle.srcp_driver.specs.Switches.{switch_aged}
 use Rattle.srcp_driver.proofs.switches.age_all.Given as goal
 
 abbrev pub invariant-loop-switch : goal.invariant-loop-switch
-invariant-loop-switch l = l.switches ≡ map (switch_aged l.now) (take l.switch-index l.initial.switches)
-    ++ drop l.switch-index l.initial.switches
+invariant-loop-switch l =
+    l.switches ≡ map (switch_aged l.now) (take l.switch-index l.initial.switches) ++ drop l.switch-index l.initial.switches

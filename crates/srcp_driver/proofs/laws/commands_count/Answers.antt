@@ -1,0 +1,6 @@
+-- The law is proved of the definitions.
+use Rattle.srcp_driver.proofs.Counts.{hands_count, rows_count, switching_on_counts}
+use Rattle.srcp_driver.proofs.laws.commands_count.Goals as goal
+
+pub returns : goal.returns
+returns c = record { rows = rows_count; hands = hands_count; power = switching_on_counts }
