@@ -14,6 +14,7 @@ from srcp_bridges.rows import THROWN, Key, Port, Power, Row
 
 RUN = Path(__file__).resolve().parent.parent.parent / "run"  # that of the repository, if this file is in it
 FAULT = re.compile(r"^(?:srcp_server: plan|srcp_server|error): (.*)", re.M)
+NO_KEY = "a key that is none of "
 LOCK = re.compile(r"SET (\d+) LOCK GA (\d+) 0")
 PORT = re.compile(r"SET (\d+) GA (\d+) \d+ 1 \d+")
 BY_HAND = re.compile(re.escape(THROWN) + r" (\d+) (\d+)")
@@ -47,6 +48,8 @@ class RoutePlan:
             raise Wrong(f"--program {program}: {fault.strerror}") from None
         if done.returncode:
             found = FAULT.search(done.stderr)
+            if found and NO_KEY in found[1]:
+                read_plan(path)  # names the key and its line, which the program does not
             raise Wrong(f"--plan {path}: {found[1] if found else f'{program} ended with status {done.returncode}'}")
         try:
             document: dict[str, Any] = tomllib.loads(Path(path).read_text("utf-8"))
