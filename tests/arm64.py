@@ -8,10 +8,10 @@ import tempfile
 from contextlib import contextmanager
 from pathlib import Path
 
-from debian_package import pack, version_of_these_sources
+from debian_package import pack
 from pages import TOP, reader_of_a_page, take_bridges
 from releases import unpack
-from serving import SECONDS, TriedNothing
+from serving import SECONDS, VERSION, TriedNothing
 
 SOURCES = TOP / "packaging" / "arm64"
 TESTS = Path(__file__).resolve().parent
@@ -91,7 +91,7 @@ def cases_on_arm64(_):
 def processors_of_the_install_page(_):
     """The program runs on the processors of the Raspberry Pis that the page names."""
     page = " ".join((TOP / "docs" / "install.md").read_text().split())
-    want = version_of_these_sources()
+    want = f"{VERSION.decode()}\n"
     wrong = [name for name in PROCESSORS if version_told([*EMULATED, "-cpu", name, program_for_arm64()]) != want]
     return f"does not run on {wrong}" if wrong else None if "of a Pi 3, 4 and 5" in page else "the page names others"
 
@@ -124,7 +124,7 @@ def package_for_arm64(program):
     newest = re.search(r"^Depends: libc6 \(>= ([\d.]+)\)", control, re.M)[1]
     got = (files, told, "Architecture: arm64\n" in control, is_stripped, newest,
            refused.returncode, "strip" in refused.stderr)
-    want = ({"DEBIAN/control", "DEBIAN/md5sums", "usr/bin/srcp_server"}, version_of_these_sources(), True, True, "2.34",
+    want = ({"DEBIAN/control", "DEBIAN/md5sums", "usr/bin/srcp_server"}, f"{VERSION.decode()}\n", True, True, "2.34",
             1, True)
     return None if got == want else f"got {got}"
 

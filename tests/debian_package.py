@@ -11,7 +11,7 @@ from contextlib import contextmanager
 from pathlib import Path
 
 from pages import PACKING, TOP, missing_packaging_tools, reader_of_a_page, take_bridges
-from serving import SECONDS, WELCOME, Client, TriedNothing, free_port, wait_for
+from serving import SECONDS, VERSION, Client, TriedNothing, free_port, wait_for
 
 PACKAGING = TOP / "packaging"
 sys.path.insert(0, str(PACKAGING))
@@ -249,12 +249,6 @@ def package_suggests_what_its_programs_can_use(_: str) -> str | None:
     return f"not suggested: {missing}" if missing or len(others) < 3 else None
 
 
-def version_of_these_sources() -> str:
-    """What the program says to `--version`: the version of the welcome line, and the newest of the changes."""
-    newest, *_ = re.findall(r"^## (.*)$", (TOP / "CHANGELOG.md").read_text(), re.M)
-    return f"{WELCOME.decode().partition(';')[0]} (release {newest})\n"
-
-
 def version_is_counted_once(program):
     """The package, its changelog and the pages have one version, which the program says beside that of its welcome
     line. The program and the changes may have one more, which is not released yet."""
@@ -267,7 +261,7 @@ def version_is_counted_once(program):
     named = set(re.findall(r"srcp-server_([\d.]+-\d+)_", readme + install))
     front = re.findall(r"^Version ([\d.]+): \[what is new\]\(CHANGELOG.md\)\.$", readme, re.M)
     got = told, "`srcp_server 1.0`" in changes, package in [f"{head}-1" for head in heads[:2]], named, front
-    want = version_of_these_sources(), True, True, {package}, [package.removesuffix("-1")]
+    want = f"{VERSION.decode()}\n", True, True, {package}, [package.removesuffix("-1")]
     return None if got == want else f"{got}"
 
 

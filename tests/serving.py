@@ -21,8 +21,11 @@ ga_max = 2044
 fb_ports = 8
 """
 WELCOME = b"srcp_server 1.0; SRCP 0.8.4; SRCPOTHER 0.8.3\n"
+RELEASE, *_ = re.findall(rb"^## (.*)$", (Path(__file__).parent.parent / "CHANGELOG.md").read_bytes(), re.M)
+# What the program says to `--version`: the version of the welcome line, and the newest of the changes.
+VERSION = b"%s (release %s)" % (WELCOME.partition(b";")[0], RELEASE)
 # in what a case expects these words stand for texts of the program
-TEXTS = {b"{WELCOME}": WELCOME.removesuffix(b"\n"), b"{VERSION}": WELCOME.partition(b";")[0]}
+TEXTS = {b"{WELCOME}": WELCOME.removesuffix(b"\n"), b"{VERSION}": VERSION}
 SECONDS = 20
 UNREAD = 128 + signal.SIGPIPE  # the status of what ends since nobody reads what it prints
 
