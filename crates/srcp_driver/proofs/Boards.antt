@@ -1,18 +1,17 @@
 -- Functions and turnouts are told what is commanded, at their pace, and the registry follows.
 use Rattle.std.proofs.Common.{◌≡◌, ◌⊎◌, inl, inr, ℕ, ◌<◌, Bool, true, false, not, ◌&&◌, ◌||◌, Option, Some, None, List, [], ◌∷◌, get_or}
-use Rattle.std.proofs.Common.{length, refl, sym, ◌∙◌, ap, arith, subst}
-use Rattle.std.proofs.lemmas.Bool.{cases_Bool}
+use Rattle.std.proofs.Common.{length, refl, sym, ◌∙◌, ap, arith}
 use Rattle.std.proofs.lemmas.Grind.{common_steps}
 use Rattle.std.proofs.lemmas.List.Quantifiers.{position-Some}
 use Rattle.std.proofs.lemmas.List.Sums.{fails_before_first}
 use Rattle.std.proofs.lemmas.Option.{get_or_from_slice_get, slice_get-get_or, slice_get_within}
 use Rattle.std.specs.List.{position, position_or_len}
 use Rattle.std.specs.Option.{option_and_then, option_map, option_map_or}
-use Rattle.std.specs.Prelude.{if◌then◌else◌, is_none, is_some, map, slice_get}
-use Rattle.srcp_driver.specs.Board.{Board, begun, board_after, board_heard, board_puts, board_start, board_step, board_tells, first_setting}
+use Rattle.std.specs.Prelude.{if◌then◌else◌, is_none, is_some, slice_get}
+use Rattle.srcp_driver.specs.Board.{Board, board_heard, board_tells, first_setting}
 use Rattle.srcp_driver.specs.Board.{may_go, next_setting, set_to, setting_at, setting_put, setting_to_put, setting_told, switch_at}
 use Rattle.srcp_driver.specs.BoardLaws.{RowsFollow, SettingsArePaced, SettingsAreTold, Turn, board_course, board_hears, board_moment}
-use Rattle.srcp_driver.specs.BoardLaws.{last_told, moment_after, setting_of}
+use Rattle.srcp_driver.specs.BoardLaws.{last_told, moment_after}
 use Rattle.srcp_driver.specs.Cabs.{has_passed}
 use Rattle.srcp_driver.specs.Drives.{is_same_way}
 use Rattle.srcp_driver.specs.Powers.{is_told}
@@ -22,7 +21,7 @@ use Rattle.srcp_driver.specs.declared.settings.BoardEvent.TheVariants as event
 use Rattle.srcp_driver.specs.declared.settings.Kind.{Kind}
 use Rattle.srcp_driver.specs.declared.settings.Setting.{Setting}
 use Rattle.srcp_driver.specs.declared.switch.Switch.{Switch}
-use Rattle.srcp_driver.proofs.Same.{both, not_false, same_way}
+use Rattle.srcp_driver.proofs.Same.{both, same_way}
 
 -- ---- the first that passes a test
 

@@ -6,7 +6,7 @@ use Rattle.srcp_driver.specs.Cabs.{aged, asked, handed, held, is_due, is_kept, i
 use Rattle.srcp_driver.specs.Cabs.{still_asked, told, wanted, with_row}
 use Rattle.srcp_driver.specs.Drives.{drives, is_alike, is_same, is_value, rest}
 use Rattle.srcp_driver.specs.Powers.{is_cut}
-use Rattle.srcp_driver.specs.Runs.{course, heard, is_commanded, Made, order, rests}
+use Rattle.srcp_driver.specs.Runs.{course, heard, is_commanded, Made, rests}
 use Rattle.srcp_driver.specs.Steps.{after, happens, next, next_put, Table, tells}
 use Rattle.srcp_driver.specs.declared.cab.Cab.{Cab}
 use Rattle.srcp_driver.specs.declared.drive.Drive.{Drive}

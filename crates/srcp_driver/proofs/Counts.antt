@@ -1,21 +1,175 @@
--- What is commanded counts.
-use Rattle.std.proofs.Common.{◌&&◌, ap, Bool, false, None, not, Option, refl, Some, sym, true, ◌∙◌, ◌≡◌}
+-- What is commanded counts, until another event may end that.
+use Rattle.std.proofs.Common.{◌&&◌, ◌++◌, ◌<◌, ◌==◌, [], ap, Bool, false, List, None, not, Option, refl, Some, subst, sym, true}
+use Rattle.std.proofs.Common.{ℕ, ◌∙◌, ◌∷◌, ◌≡◌}
+use Rattle.std.proofs.lemmas.Bool.{eq-eqb}
 use Rattle.std.specs.Option.{option_map_or}
-use Rattle.std.specs.Prelude.{if◌then◌else◌, ◌||◌}
-use Rattle.srcp_driver.specs.Cabs.{handed, held, is_no_command, is_own, reported, still_asked, told, wanted, with_row}
-use Rattle.srcp_driver.specs.Drives.{drives, is_alike, is_same}
-use Rattle.srcp_driver.specs.Laws.{HandsCount, RowsCount, SwitchingOnCounts}
+use Rattle.std.specs.Prelude.{if◌then◌else◌, is_none, is_some, ◌||◌}
+use Rattle.srcp_driver.specs.Cabs.{has_passed, confirms}
+use Rattle.srcp_driver.specs.CommandLaws.{Counts, HandsCount, IsObeyed, may_end, RowsCount}
+use Rattle.srcp_driver.specs.Drives.{drives, is_alike, is_same, is_value, rest}
+use Rattle.srcp_driver.specs.Laws.{AreNo}
+use Rattle.srcp_driver.specs.Noted.{asks, is_answer, is_denied, Noted, noted_asked, noted_by, noted_heard, noted_lost}
+use Rattle.srcp_driver.specs.Noted.{noted_row, noted_said, noted_told, notes, power_noted, to_do}
 use Rattle.srcp_driver.specs.Powers.{is_told}
-use Rattle.srcp_driver.specs.Runs.{course}
-use Rattle.srcp_driver.specs.Steps.{is_old, Table}
-use Rattle.srcp_driver.specs.declared.cab.Cab.{Cab}
+use Rattle.srcp_driver.specs.Runs.{heard, is_here, Known, known, Made, order}
 use Rattle.srcp_driver.specs.declared.drive.Drive.{Drive}
+use Rattle.srcp_driver.specs.declared.event.Event.{Event}
+use Rattle.srcp_driver.specs.declared.event.Put.{Put}
+use Rattle.srcp_driver.specs.declared.event.Tell.{Tell}
 use Rattle.srcp_driver.specs.declared.event.Event.TheVariants as event
-use Rattle.srcp_driver.proofs.Agree.{agrees}
-use Rattle.srcp_driver.proofs.Each.{heard_before}
-use Rattle.srcp_driver.proofs.Lists.{changed_at, here_at}
+use Rattle.srcp_driver.specs.declared.event.Put.TheVariants as put
+use Rattle.srcp_driver.specs.declared.event.Tell.TheVariants as tell
+use Rattle.srcp_driver.proofs.Chosen.{order_for}
+use Rattle.srcp_driver.proofs.Notes.{all_seen}
+use Rattle.srcp_driver.proofs.Same.{not_false, same_drive}
+use Rattle.srcp_driver.proofs.Tracks.{does_by}
 
--- the row of a locomotive that is not held, while the station is there
+-- of two that keep something, the one that a test picks
+pub pick_noted : (P : Noted → Type 0) (b : Bool) (x y : Noted) → P x → P y → P (if b then x else y)
+pick_noted P true x y p q = p
+pick_noted P false x y p q = q
+
+-- .. if the test fails
+pub pick_else : (P : Noted → Type 0) (b : Bool) (x y : Noted) → b ≡ false → P y → P (if b then x else y)
+pick_else P true x y denied q = absurd (cc)
+pick_else P false x y denied q = q
+
+-- what no order changes
+pub record Stays (P : Noted → Type 0) : Type 0 where
+  pub told : (noted : Noted) (drive : Drive) → P noted → P (record noted { told = Some drive })
+  pub asked : (noted : Noted) (drive : Drive) → P noted → P (record noted { asked = Some drive })
+  pub named : (noted : Noted) (is_silent : Bool) → P noted → P (record noted { is_named = is_silent })
+
+told_stays : (P : Noted → Type 0) → Stays P → (n : ℕ) (x : Option Tell) (noted : Noted) → P noted → P (noted_told n x noted)
+told_stays P stays n None noted p = p
+told_stays P stays n (Some tell.StopAll) noted p = p
+told_stays P stays n (Some (tell.Power on)) noted p = p
+told_stays P stays n (Some (tell.Cab m drive)) noted p =
+    pick_noted P (n == m) (record noted { told = Some drive }) noted (stays.told noted drive p) p
+
+asked_stays : (P : Noted → Type 0) → Stays P → (n : ℕ) (x : Option Put) (noted : Noted) → P noted → P (noted_asked n x noted)
+asked_stays P stays n None noted p = p
+asked_stays P stays n (Some (put.Power on)) noted p = p
+asked_stays P stays n (Some (put.Cab m drive)) noted p =
+    pick_noted P (n == m) (record noted { asked = Some drive }) noted (stays.asked noted drive p) p
+asked_stays P stays n (Some (put.Silent m is_silent)) noted p =
+    pick_noted P (n == m) (record noted { is_named = is_silent }) noted (stays.named noted is_silent p) p
+
+-- what holds once an event came, and no event ends
+since_stays : (P : Noted → Type 0) (ends : Event → Bool) (made : Made) (n : ℕ) → Stays P
+    → ((past : List Event) (event : Event) (noted : Noted) → ends event ≡ false → P noted → P (noted_heard made n past event noted))
+    → (before since : List Event) (command : Event) → P (notes made n before command) → AreNo ends since
+    → P (noted_by made n (since ++ command ∷ before))
+since_stays P ends made n stays hears before [] command first denied =
+    asked_stays P stays n (asks made before command) (noted_told n (order made before command) (notes made n before command))
+    (told_stays P stays n (order made before command) (notes made n before command) first)
+since_stays P ends made n stays hears before (event ∷ since) command first denied =
+    let past : List Event = since ++ command ∷ before in
+    let heard : P (notes made n past event) = hears past event (noted_by made n past) denied.0
+    (since_stays P ends made n stays hears before since command first denied.1) in
+    asked_stays P stays n (asks made past event) (noted_told n (order made past event) (notes made n past event))
+    (told_stays P stays n (order made past event) (notes made n past event) heard)
+
+-- what is to be done is told
+obeyed : (made : Made) (n : ℕ) (drive : Drive) (past : List Event) (newest : Event) → n < made.count
+    → to_do (notes made n past newest) ≡ drive → IsObeyed made n drive past newest
+obeyed made n drive past newest lt is = record {
+  told = λ other e.
+      let one = order_for (heard made past newest) n other e in
+      one.so ∙ sym (ap to_do ((all_seen made past newest).cabs n one.cab one.is)) ∙ is;
+  track = λ done. does_by made past newest n drive lt is done;
+}
+
+pub counts : (P : Noted → Type 0) (ends : Event → Bool) (made : Made) (n : ℕ) (drive : Drive) → n < made.count → Stays P
+    → ((past : List Event) (event : Event) (noted : Noted) → ends event ≡ false → P noted → P (noted_heard made n past event noted))
+    → ((noted : Noted) → P noted → to_do noted ≡ drive) → (before : List Event) (command : Event) → P (notes made n before command)
+    → Counts made n drive ends before command
+counts P ends made n drive lt stays hears does before command first since newest denied =
+    let past : List Event = since ++ command ∷ before in
+    obeyed made n drive past newest lt (does (notes made n past newest) (hears past newest (noted_by made n past) denied.0
+    (since_stays P ends made n stays hears before since command first denied.1)))
+
+-- ---- it is commanded to do this
+
+abbrev pub Does : Drive → Noted → Type 0
+Does drive noted = noted.command ≡ Some drive
+
+does_stays : (drive : Drive) → Stays (Does drive)
+does_stays drive = record { told = λ noted d e. e; asked = λ noted d e. e; named = λ noted b e. e }
+
+to_do_of : (drive : Drive) (noted : Noted) → Does drive noted → to_do noted ≡ drive
+to_do_of drive noted e = ap (λ (x : Option Drive). option_map_or (λ drive. drive) x (rest noted.row)) e
+
+-- a report says this, or is awaited, or says what was told
+said_does_of : (drive other : Drive) (noted : Noted) (waits : Bool) (told : Option Drive) → other ≡ drive → Does drive noted
+    → Does drive (if waits then noted else option_map_or (λ told. if is_alike told other then noted
+    else record noted { command = Some other; is_refused = false; told = Some other }) told noted)
+said_does_of drive other noted true told same e = e
+said_does_of drive other noted false None same e = e
+said_does_of drive other noted false (Some told) same e = pick_noted (Does drive) (is_alike told other) noted
+    (record noted { command = Some other; is_refused = false; told = Some other }) e (ap (λ (d : Drive). Some d) same)
+
+said_does : (drive other : Drive) (known : Known) (here same : Bool) (noted : Noted) → (same && not (is_same other drive)) ≡ false
+    → Does drive noted → Does drive (if here && same then noted_said known other noted else noted)
+said_does drive other known false same noted denied e = e
+said_does drive other known true false noted denied e = e
+said_does drive other known true true noted denied e =
+    said_does_of drive other noted (is_some known.awaited) noted.told (same_drive other drive (not_false (is_same other drive) denied)) e
+
+on_does : (P : Noted → Type 0) (here on cut : Bool) (noted : Noted) → not on ≡ false → P noted
+    → P (if here && (not on && cut) then noted_lost noted else noted)
+on_does P false on cut noted denied e = e
+on_does P true true cut noted denied e = e
+on_does P true false cut noted denied e = absurd (cc)
+
+does_heard : (made : Made) (n : ℕ) (drive : Drive) (past : List Event) (event : Event) (noted : Noted)
+    → may_end n drive event ≡ false → Does drive noted → Does drive (noted_heard made n past event noted)
+does_heard made n drive past (event.Row m other listed) noted denied e =
+    pick_else (Does drive) (n == m) (noted_row other (listed || not (is_here past)) noted) noted denied e
+does_heard made n drive past (event.Power on listed) noted denied e = e
+does_heard made n drive past event.Greeted noted denied e = absurd (cc)
+does_heard made n drive past event.Gone noted denied e = absurd (cc)
+does_heard made n drive past event.Lost noted denied e = absurd (cc)
+does_heard made n drive past event.StopAll noted denied e = absurd (cc)
+does_heard made n drive past (event.Said m other) noted denied e =
+    said_does drive other (known made n past) (is_here past) (n == m) noted denied e
+does_heard made n drive past (event.SaidPower on) noted denied e = on_does (Does drive) (is_here past) on
+    (is_told (power_noted made past).awaited true
+    || (is_none (power_noted made past).awaited && is_told (power_noted made past).told true)) noted denied e
+does_heard made n drive past (event.Moment now) noted denied e = pick_noted (Does drive)
+    (is_some (known made n past).awaited && has_passed confirms (known made n past).told_at now) (record noted { told = None }) noted e e
+does_heard made n drive past (event.Reply true) noted denied e = e
+does_heard made n drive past (event.Reply false) noted denied e = absurd (cc)
+does_heard made n drive past event.Joined noted denied e = e
+does_heard made n drive past event.Ready noted denied e = e
+
+does_count : (made : Made) (n : ℕ) (drive : Drive) (before : List Event) (command : Event) → n < made.count
+    → Does drive (notes made n before command) → Counts made n drive (may_end n drive) before command
+does_count made n drive before command lt first = counts (Does drive) (may_end n drive) made n drive lt (does_stays drive)
+    (does_heard made n drive) (to_do_of drive) before command first
+
+-- ---- rows
+
+-- a row that is no answer and is not denied
+row_does_of : (drive : Drive) (answer denied : Bool) (noted : Noted) → answer ≡ false → denied ≡ false
+    → Does drive (if answer then record noted { row = drive; asked = None; is_refused = false }
+    else record noted {
+      row = drive;
+      command = if denied then None else Some drive;
+      is_held = denied;
+      asked = if is_value noted.asked drive then None else noted.asked;
+      is_refused = false;
+      told = if drives drive then noted.told else None;
+    })
+row_does_of drive true denied noted own e = absurd (cc)
+row_does_of drive false true noted own e = absurd (cc)
+row_does_of drive false false noted own e = refl
+
+pub row_does : (drive : Drive) (old : Bool) (noted : Noted) → is_answer drive noted ≡ false → is_denied drive old noted ≡ false
+    → Does drive (noted_row drive old noted)
+row_does drive old noted own denied = row_does_of drive (is_answer drive noted) (is_denied drive old noted) noted own denied
+
+-- while the station is there, and it is not held
 calm_of : (moving here held other : Bool) → here ≡ true → held ≡ false
     → (moving && ((false || not here) || (held && other))) ≡ false
 calm_of true true false other h d = refl
@@ -23,71 +177,38 @@ calm_of true true true other h d = absurd (cc)
 calm_of true false held other h d = absurd (cc)
 calm_of false here held other h d = refl
 
-new_row : (drive : Drive) (cab : Cab) (own none : Bool) → own ≡ false → none ≡ false
-    → wanted (if own then record cab { row = drive; asked = None; is_refused = false }
-    else record cab {
-      row = drive;
-      command = if none then None else Some drive;
-      is_held = none;
-      asked = still_asked cab.asked drive;
-      is_refused = false;
-      told = if drives drive then cab.told else None;
-    }) ≡ drive
-new_row drive cab true none o e = absurd (cc)
-new_row drive cab false true o e = absurd (cc)
-new_row drive cab false false o e = refl
+pub self : (P : Noted → Type 0) (n : ℕ) (x y : Noted) → P x → P (if n == n then x else y)
+self P n x y p = subst (λ (b : Bool). P (if b then x else y)) (sym (eq-eqb n n refl)) p
 
 pub rows_count : RowsCount
-rows_count made past n drive before now here is own free now-is =
-    let t : Table = course made past in
-    let was = heard_before t (event.Row n drive false) n now now-is in
-    let same : was.cab ≡ before = cc (was.is, is) in
-    let old : Bool = is_old false t.is_here in
-    let held : was.cab.is_held ≡ false = ap (λ (cab : Cab). cab.is_held) same ∙ free in
-    let theirs : is_own was.cab.asked drive ≡ false = ap (λ (cab : Cab). is_own cab.asked drive) same ∙ own in
-    ap wanted (was.so ∙ here_at n n (with_row drive old) was.cab refl)
-    ∙ new_row drive was.cab (is_own was.cab.asked drive) (is_no_command drive old was.cab) theirs
-    (calm_of (drives drive) t.is_here was.cab.is_held (not was.cab.is_refused || is_same was.cab.row drive)
-    (sym (agrees made past).plain.here ∙ here) held)
+rows_count made before n drive lt here own free =
+    let noted : Noted = noted_by made n before in
+    does_count made n drive before (event.Row n drive false) lt (self (Does drive) n
+    (noted_row drive (false || not (is_here before)) noted) noted
+    (row_does drive (false || not (is_here before)) noted own
+    (calm_of (drives drive) (is_here before) noted.is_held (not noted.is_refused || is_same noted.row drive) here free)))
 
--- a report of a hand
-hand_if : (drive : Drive) (cab : Cab) (like : Bool) → like ≡ false → wanted (if like then cab else handed drive cab) ≡ drive
-hand_if drive cab true e = absurd (cc)
-hand_if drive cab false e = refl
+-- ---- hands
 
-hand_of : (drive : Drive) (cab : Cab) (x y : Option Drive) → x ≡ None
-    → option_map_or (λ told. is_alike told drive) y true ≡ false
-    → wanted (option_map_or (λ told. if is_same told drive then record cab { awaited = None; is_late = false } else cab) x
-    (option_map_or (λ told. if is_alike told drive then cab else handed drive cab) y cab)) ≡ drive
-hand_of drive cab (Some a) y x-is e = absurd (cc)
-hand_of drive cab None None x-is e = absurd (cc)
-hand_of drive cab None (Some told) x-is e = hand_if drive cab (is_alike told drive) e
+hand_does_of : (drive told : Drive) (noted : Noted) (x y : Option Drive) → x ≡ None → y ≡ Some told → is_alike told drive ≡ false
+    → Does drive (if is_some x then noted else option_map_or (λ told. if is_alike told drive then noted
+    else record noted { command = Some drive; is_refused = false; told = Some drive }) y noted)
+hand_does_of drive told noted (Some a) y x-is y-is differ = absurd (cc)
+hand_does_of drive told noted None None x-is y-is differ = absurd (cc)
+hand_does_of drive told noted None (Some b) x-is y-is differ =
+    let same : b ≡ told = cc in
+    pick_else (Does drive) (is_alike b drive) noted (record noted { command = Some drive; is_refused = false; told = Some drive })
+    (ap (λ (d : Drive). is_alike d drive) same ∙ differ) refl
 
-here_said : (drive : Drive) (here : Bool) (x y : Cab) → here ≡ true → wanted x ≡ drive → wanted (if here then x else y) ≡ drive
-here_said drive true x y h e = e
-here_said drive false x y h e = absurd (cc)
+here_does : (here same : Bool) (drive : Drive) (x y : Noted) → here ≡ true → same ≡ true → Does drive x
+    → Does drive (if here && same then x else y)
+here_does true true drive x y h s e = e
+here_does true false drive x y h s e = absurd (cc)
+here_does false same drive x y h s e = absurd (cc)
 
 pub hands_count : HandsCount
-hands_count made past n drive before now here is none differ now-is =
-    let t : Table = course made past in
-    let was = heard_before t (event.Said n drive) n now now-is in
-    let same : was.cab ≡ before = cc (was.is, is) in
-    let waits : was.cab.awaited ≡ None = ap (λ (cab : Cab). cab.awaited) same ∙ none in
-    let other : option_map_or (λ told. is_alike told drive) was.cab.told true ≡ false =
-    ap (λ (cab : Cab). option_map_or (λ told. is_alike told drive) cab.told true) same ∙ differ in
-    ap wanted was.so
-    ∙ here_said drive t.is_here (changed_at n (reported drive) n was.cab) was.cab (sym (agrees made past).plain.here ∙ here)
-    (ap wanted (here_at n n (reported drive) was.cab refl)
-    ∙ hand_of drive was.cab was.cab.awaited was.cab.told waits other)
-
--- the power
-on_of : (own here before : Bool) → own ≡ false → here ≡ true
-    → (if true && own then before else (true && not (false || not here))) ≡ true
-on_of false true before o h = refl
-on_of false false before o h = absurd (cc)
-on_of true here before o h = absurd (cc)
-
-pub switching_on_counts : SwitchingOnCounts
-switching_on_counts made past here own =
-    let t : Table = course made past in
-    on_of (is_told t.power.asked true) t.is_here t.power.is_on own (sym (agrees made past).plain.here ∙ here)
+hands_count made before n drive told lt here none is differ =
+    let noted : Noted = noted_by made n before in
+    does_count made n drive before (event.Said n drive) lt (here_does (is_here before) (n == n) drive
+    (noted_said (known made n before) drive noted) noted here (eq-eqb n n refl)
+    (hand_does_of drive told noted (known made n before).awaited noted.told none is differ))

@@ -5,7 +5,6 @@ use Rattle.std.specs.Option.{option_map_or}
 use Rattle.std.specs.Prelude.{if◌then◌else◌, map, slice_get, slice_set, ◌||◌}
 use Rattle.srcp_driver.specs.Cabs.{aged, asked, forgotten, held, is_silent, joined, named, refused, reported, told, with_row}
 use Rattle.srcp_driver.specs.Powers.{is_cut}
-use Rattle.srcp_driver.specs.Runs.{order}
 use Rattle.srcp_driver.specs.Steps.{at, happens, noted, put_noted, put_refused, switched, Table}
 use Rattle.srcp_driver.specs.declared.cab.Cab.{Cab}
 use Rattle.srcp_driver.specs.declared.drive.Drive.{Drive}

@@ -2,7 +2,7 @@
 use Rattle.std.proofs.Common.{◌&&◌, ◌++◌, ◌==◌, [], ap, Bool, false, List, None, not, Option, refl, Some, sym, true, ℕ, ◌∙◌, ◌∷◌, ◌≡◌}
 use Rattle.std.specs.Option.{option_map_or}
 use Rattle.std.specs.Prelude.{if◌then◌else◌, ◌||◌}
-use Rattle.srcp_driver.specs.Cabs.{handed, held, is_due, is_no_command, is_own, is_silent, refused, reported, still_asked, told, with_row}
+use Rattle.srcp_driver.specs.Cabs.{handed, held, is_due, is_no_command, is_own, refused, reported, still_asked, told, with_row}
 use Rattle.srcp_driver.specs.Drives.{drives, is_alike, is_same}
 use Rattle.srcp_driver.specs.Laws.{AreNo, is_row, may_rest, RowsRestFirst}
 use Rattle.srcp_driver.specs.Powers.{is_cut}

@@ -3,11 +3,11 @@ use Rattle.std.proofs.Common.{◌&&◌, ◌++◌, ◌==◌, [], ap, Bool, false,
 use Rattle.std.proofs.Common.{◌∙◌, ◌∷◌, ◌≡◌, ◌⊎◌}
 use Rattle.std.specs.Option.{option_map_or}
 use Rattle.std.specs.Prelude.{if◌then◌else◌, ◌||◌}
-use Rattle.srcp_driver.specs.Cabs.{asked, is_kept, is_no_command, is_own, is_silent, reported, still_asked, told, with_row}
+use Rattle.srcp_driver.specs.Cabs.{asked, is_kept, is_no_command, is_own, reported, still_asked, with_row}
 use Rattle.srcp_driver.specs.Drives.{drives, is_value, rest}
 use Rattle.srcp_driver.specs.Laws.{AreNo, is_row, may_change, NewestIsTold}
 use Rattle.srcp_driver.specs.Powers.{is_cut}
-use Rattle.srcp_driver.specs.Runs.{course, Made, rests, says}
+use Rattle.srcp_driver.specs.Runs.{course, Made, rests}
 use Rattle.srcp_driver.specs.Steps.{after, happens, next, next_put, Table, tells}
 use Rattle.srcp_driver.specs.declared.cab.Cab.{Cab}
 use Rattle.srcp_driver.specs.declared.drive.Drive.{Drive}

@@ -3,9 +3,10 @@ use Rattle.std.proofs.Common.{◌&&◌, ◌++◌, [], ap, Bool, false, List, Non
 use Rattle.std.proofs.Common.{◌≢◌}
 use Rattle.std.specs.Option.{option_map_or}
 use Rattle.std.specs.Prelude.{if◌then◌else◌, is_some, ◌||◌}
-use Rattle.srcp_driver.specs.Cabs.{confirms, has_passed, is_silent, reported, told}
+use Rattle.srcp_driver.specs.Cabs.{confirms, has_passed, is_silent, reported}
 use Rattle.srcp_driver.specs.Drives.{is_same_way}
 use Rattle.srcp_driver.specs.Laws.{AreNo, CutsStay, PowerStaysOff, switches_on}
+use Rattle.srcp_driver.specs.Noted.{is_hand_off, NotedPower}
 use Rattle.srcp_driver.specs.Powers.{is_cut, is_told, power_heard}
 use Rattle.srcp_driver.specs.Runs.{course, is_here, is_power_loss, Made, order}
 use Rattle.srcp_driver.specs.Steps.{after, at, happens, next, next_put, noted, put_noted, put_refused, switched, Table, tells}
@@ -19,6 +20,7 @@ use Rattle.srcp_driver.specs.declared.event.Put.TheVariants as put
 use Rattle.srcp_driver.specs.declared.event.Tell.TheVariants as tell
 use Rattle.srcp_driver.proofs.Agree.{agrees}
 use Rattle.srcp_driver.proofs.Chosen.{order_on}
+use Rattle.srcp_driver.proofs.Notes.{seen_by}
 
 abbrev IsOff : Table → Type 0
 IsOff t = t.power.is_on ≡ false
@@ -143,4 +145,5 @@ power_stays_off made before loss since newest lost denied =
 
 pub cuts_stay : CutsStay
 cuts_stay made before since newest here cut denied = stays_off made before (event.SaidPower false) since newest
-    (cut_off (course made before) (is_here before) (sym (agrees made before).plain.here) here cut) denied
+    (cut_off (course made before) (is_here before) (sym (agrees made before).plain.here) here
+    (ap (λ (k : NotedPower). is_hand_off k false) (sym (seen_by made before).power) ∙ cut)) denied

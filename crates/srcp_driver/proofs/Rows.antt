@@ -6,7 +6,7 @@ use Rattle.srcp_driver.specs.Cabs.{handed, held, is_due, is_no_command, is_own, 
 use Rattle.srcp_driver.specs.Drives.{drives, is_alike, is_same}
 use Rattle.srcp_driver.specs.Laws.{AreNo, is_row}
 use Rattle.srcp_driver.specs.Powers.{is_cut}
-use Rattle.srcp_driver.specs.Runs.{course, Made, order}
+use Rattle.srcp_driver.specs.Runs.{course, Made}
 use Rattle.srcp_driver.specs.Steps.{after, happens, next, next_put, Table, tells}
 use Rattle.srcp_driver.specs.declared.cab.Cab.{Cab}
 use Rattle.srcp_driver.specs.declared.drive.Drive.{Drive}

@@ -6,8 +6,8 @@ use Rattle.srcp_driver.specs.Cabs.{aged, asked, forgotten, handed, held, is_due,
 use Rattle.srcp_driver.specs.Cabs.{reported, still_asked, told, with_row}
 use Rattle.srcp_driver.specs.Drives.{drives, is_alike, is_same, is_same_way}
 use Rattle.srcp_driver.specs.Powers.{is_cut}
-use Rattle.srcp_driver.specs.Runs.{Known, known, known_heard, known_ordered, known_said, known_told, order}
-use Rattle.srcp_driver.specs.Steps.{at, Table}
+use Rattle.srcp_driver.specs.Runs.{Known, known_heard, known_ordered, known_said, known_told}
+use Rattle.srcp_driver.specs.Steps.{Table}
 use Rattle.srcp_driver.specs.declared.cab.Cab.{Cab}
 use Rattle.srcp_driver.specs.declared.drive.Drive.{Drive}
 use Rattle.srcp_driver.specs.declared.event.Event.{Event}

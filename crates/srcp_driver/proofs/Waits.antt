@@ -8,7 +8,7 @@ use Rattle.srcp_driver.specs.Cabs.{still_asked, told, wanted, with_row}
 use Rattle.srcp_driver.specs.Drives.{drives, is_alike, is_same, is_value}
 use Rattle.srcp_driver.specs.Laws.{may_command}
 use Rattle.srcp_driver.specs.Powers.{is_cut}
-use Rattle.srcp_driver.specs.Runs.{moves, order, rests}
+use Rattle.srcp_driver.specs.Runs.{moves, rests}
 use Rattle.srcp_driver.specs.Steps.{after, at, happens, next, next_put, Table, tells}
 use Rattle.srcp_driver.specs.declared.cab.Cab.{Cab}
 use Rattle.srcp_driver.specs.declared.drive.Drive.{Drive}

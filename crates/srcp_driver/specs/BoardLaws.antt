@@ -1,7 +1,7 @@
 -- What holds of functions and of turnouts after every list of events. Each list has the newest event first.
-use Rattle.std.specs.Prelude.{◌≡◌, ◌⊎◌, ℕ, Bool, true, false, Option, Some, None, List, [], ◌∷◌, is_some, slice_get}
+use Rattle.std.specs.Prelude.{◌≡◌, ◌⊎◌, ℕ, Bool, true, Option, Some, None, List, [], ◌∷◌, is_some, slice_get}
 use Rattle.std.specs.Prelude.{if◌then◌else◌}
-use Rattle.std.specs.Option.{option_map_or, option_or}
+use Rattle.std.specs.Option.{option_map_or}
 use Rattle.srcp_driver.specs.Board.{Board, board_after, board_heard, board_start, board_step, may_go, next_setting}
 use Rattle.srcp_driver.specs.Cabs.{has_passed}
 use Rattle.srcp_driver.specs.declared.settings.BoardEvent.{BoardEvent}

@@ -1,5 +1,5 @@
 -- What one function or turnout is to be, and what rows, reports, moments and orders make of it.
-use Rattle.std.specs.Prelude.{ℕ, Bool, true, false, not, ◌&&◌, ◌||◌, Option, Some, None, if◌then◌else◌, is_none}
+use Rattle.std.specs.Prelude.{ℕ, Bool, true, false, not, ◌&&◌, ◌||◌, Some, None, if◌then◌else◌, is_none}
 use Rattle.std.specs.Prelude.{is_some}
 use Rattle.std.specs.Option.{option_map_or}
 use Rattle.srcp_driver.specs.Cabs.{confirms, has_passed}

@@ -7,7 +7,7 @@ ghost use Rattle.srcp_driver.specs.Cabs.{refused, reported, silent_from, still_a
 use crate::cab::Cab;
 use crate::drive::{Drive, is_alike, is_same, is_value};
 
-/// Is how many milliseconds the station has to confirm what it was told, before it is told again.
+/// Is how many milliseconds the station has to confirm an order, before the driver tells that order again.
 pub const CONFIRMS: u64 = 250;
 
 impl Cab {
@@ -64,7 +64,7 @@ impl Cab {
         }
     }
 
-    /// Returns the locomotive after a loss: it is told again what it is to do.
+    /// Returns the locomotive after a loss: the station is told again what the locomotive is to do.
     pub(crate) fn held(self) -> Cab
         ensures { result ≡ held self }
     {
@@ -150,7 +150,7 @@ impl Cab {
         }
     }
 
-    /// Returns from which moment the station has confirmed nothing, once it is told this.
+    /// Returns from which moment the station has confirmed nothing, once the station is told this.
     fn silent_from(self, drive: Drive, now: u64) -> u64
         ensures { result ≡ silent_from drive now self }
     {

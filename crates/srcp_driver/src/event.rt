@@ -28,7 +28,8 @@ pub enum Event {
     Said(usize, Drive),
     /// The station reports whether the power is on.
     SaidPower(bool),
-    /// It is so many milliseconds. The station may be told as many orders as the pace says until the next moment.
+    /// The clock shows this many milliseconds. The pace says how many orders the station may be told until the next
+    /// moment.
     Moment(u64),
     /// The registry has accepted or refused what it was asked.
     Reply(bool),
@@ -56,7 +57,7 @@ pub enum Put {
     Power(bool),
     /// The locomotive at this place does this.
     Cab(usize, Drive),
-    /// The station confirms nothing that it is told of the locomotive at this place, or does so again.
+    /// The station confirms no order for the locomotive at this place, or confirms orders again.
     Silent(usize, bool),
 }
 

@@ -11,7 +11,7 @@ pub enum BoardEvent {
     Greeted,
     /// The station is gone.
     Gone,
-    /// It is so many milliseconds.
+    /// The clock shows this many milliseconds.
     Moment(u64),
     /// The registry has accepted or refused what it was asked.
     Reply(bool),
