@@ -17,7 +17,7 @@ use Rattle.srcp_routes.specs.declared.route.Setting.{Setting}
 use Rattle.srcp_routes.specs.declared.route.Signal.{Signal}
 use Rattle.srcp_plan_file.specs.Devices.{OrFault, other_bus, device_of, turnout_of, sensor_of, signal_with, signal_of}
 use Rattle.srcp_plan_file.specs.Document.{drawn_in, new_turnout, pieces_at, turnout_in, turnouts_in, array_if}
-use Rattle.srcp_plan_file.specs.Document.{sensor_in, blocks_in, new_signal, signal_at, frees_at, route_numbered}
+use Rattle.srcp_plan_file.specs.Document.{sensor_in, sensors_in, sensors_at, new_signal, signal_at, frees_at, route_numbered}
 use Rattle.srcp_plan_file.specs.Document.{is_numbered, new_number, apart_from, apart_from_all, route_of, route_in, routes_in}
 use Rattle.srcp_plan_file.specs.Document.{plan_in, plan_of}
 use Rattle.srcp_plan_file.specs.Faults.{plan_key}
@@ -191,17 +191,17 @@ module _ (own number : ℕ) where
       after (λ v. Unit) (IsSensor own) (array_in (fault.Beyond number f) value) _ (any _)
       (λ values h. is_sensor own (fault.Beyond number f) values)
 
-  are_blocks : (before : List Device) (values : List Data) → All (IsSensor own) before
-      → IfOk (blocks_in own number before values) (All (IsSensor own))
-  are_blocks before [] h = h
-  are_blocks before (value ∷ values) h =
-      after (IsSensor own) (All (IsSensor own)) (sensor_in own number field.Blocks value) _ (is_sensor_in field.Blocks value)
-      (λ block n. are_blocks (before ++ block ∷ []) values (All-push (IsSensor own) before block h n))
+  are_sensors : (f : Field) (before : List Device) (values : List Data) → All (IsSensor own) before
+      → IfOk (sensors_in own number f before values) (All (IsSensor own))
+  are_sensors f before [] h = h
+  are_sensors f before (value ∷ values) h =
+      after (IsSensor own) (All (IsSensor own)) (sensor_in own number f value) _ (is_sensor_in f value)
+      (λ sensor n. are_sensors f (before ++ sensor ∷ []) values (All-push (IsSensor own) before sensor h n))
 
-  blocks_hold : (members : Members) → IfOk (array_if number field.Blocks members >>= blocks_in own number []) (All (IsSensor own))
-  blocks_hold members =
-      after (λ v. Unit) (All (IsSensor own)) (array_if number field.Blocks members) _ (any _)
-      (λ values h. are_blocks [] values (All-nil (IsSensor own)))
+  sensors_hold : (f : Field) (members : Members) → IfOk (sensors_at own number f members) (All (IsSensor own))
+  sensors_hold f members =
+      after (λ v. Unit) (All (IsSensor own)) (array_if number f members) _ (any _)
+      (λ values h. are_sensors f [] values (All-nil (IsSensor own)))
 
   -- a signal within the limits that is none of the turnouts
   abbrev IsSignalBeside : List Setting → Option Signal → Type 0
@@ -237,11 +237,13 @@ module _ (own number : ℕ) where
       → IfOk (route_numbered own number drawn members) IsNumbered
   numbered drawn members n =
       after AreTurnouts IsNumbered (array_if number field.Turnouts members >>= turnouts_in own number []) _ (turnouts_hold members)
-      (λ turnouts t. after (All (IsSensor own)) IsNumbered (array_if number field.Blocks members >>= blocks_in own number [])
-      _ (blocks_hold members)
+      (λ turnouts t. after (All (IsSensor own)) IsNumbered (sensors_at own number field.Blocks members) _
+      (sensors_hold field.Blocks members)
       (λ blocks b. after (IsSignalBeside turnouts) IsNumbered (signal_at own number turnouts members) _ (signal_holds turnouts members)
       (λ signal s. after (λ frees. IfSome frees (IsSensor own)) IsNumbered (frees_at own number members) _ (frees_hold members)
-      (λ frees f. after (λ pieces. Unit) IsNumbered (pieces_at drawn number turnouts members) _ (any _)
+      (λ frees f. after (All (IsSensor own)) IsNumbered (sensors_at own number field.Sections members) _
+      (sensors_hold field.Sections members)
+      (λ sections c. after (λ pieces. Unit) IsNumbered (pieces_at drawn number turnouts members) _ (any _)
       (λ pieces p. (
         record {
           number = n;
@@ -249,11 +251,12 @@ module _ (own number : ℕ) where
           blocks = b;
           signal = s.0;
           frees = f;
+          sections = c;
           turnouts_once = t.1;
           signal_once = s.1;
         },
         refl,
-      ))))))
+      )))))))
 
 -- ---- routes beside those before them
 

@@ -101,12 +101,16 @@ module _ (own number : ℕ) where
   abbrev pub sensor_in : Field → Data → OrFault Device
   sensor_in of value = array_in (fault.Beyond number of) value >>= sensor_of own (fault.Beyond number of)
 
-  -- the blocks before, and these from left to right
-  abbrev pub blocks_in : List Device → List Data → OrFault (List Device)
-  blocks_in before [] = Ok before
-  blocks_in before (value ∷ values) = do
-    block ← sensor_in field.Blocks value
-    blocks_in (before ++ block ∷ []) values
+  -- the sensors before, and these of a key from left to right
+  abbrev pub sensors_in : Field → List Device → List Data → OrFault (List Device)
+  sensors_in of before [] = Ok before
+  sensors_in of before (value ∷ values) = do
+    sensor ← sensor_in of value
+    sensors_in of (before ++ sensor ∷ []) values
+
+  -- the sensors at a key of the route, none if it is not given
+  abbrev pub sensors_at : Field → Members → OrFault (List Device)
+  sensors_at of members = array_if number of members >>= sensors_in of []
 
   -- the signal beside the turnouts
   abbrev pub signal_in : List Setting → Data → OrFault (Option Signal)
@@ -127,9 +131,10 @@ module _ (own number : ℕ) where
   abbrev pub route_numbered : Drawn → Members → OrFault PlannedRoute
   route_numbered drawn members = do
     turnouts ← array_if number field.Turnouts members >>= turnouts_in []
-    blocks ← array_if number field.Blocks members >>= blocks_in []
+    blocks ← sensors_at field.Blocks members
     signal ← signal_at turnouts members
     frees ← frees_at members
+    sections ← sensors_at field.Sections members
     pieces ← pieces_at drawn number turnouts members
     Ok (record {
       number = number;
@@ -137,6 +142,7 @@ module _ (own number : ℕ) where
       blocks = blocks;
       signal = signal;
       frees = frees;
+      sections = sections;
       pieces = pieces;
     })
 

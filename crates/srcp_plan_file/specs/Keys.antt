@@ -16,7 +16,8 @@ plan_keys = field.Bus ∷ field.Route ∷ field.Plan ∷ field.Legend ∷ field.
 -- what they read of a route
 abbrev pub route_keys : List Field
 route_keys =
-    field.Number ∷ field.Name ∷ field.From ∷ field.To ∷ field.Turnouts ∷ field.Blocks ∷ field.Signal ∷ field.Frees ∷ []
+    field.Number ∷ field.Name ∷ field.From ∷ field.To ∷ field.Turnouts ∷ field.Blocks ∷ field.Signal ∷ field.Frees
+    ∷ field.Sections ∷ []
 
 -- how many keys there are
 abbrev pub key_count : Members → ℕ

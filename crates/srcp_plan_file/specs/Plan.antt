@@ -26,6 +26,7 @@ pub record PlannedRoute : Type 0 where
   pub blocks : List Device
   pub signal : Option Signal
   pub frees : Option Device
+  pub sections : List Device
   pub pieces : List ℕ
 
 -- the tracks of a drawing: its text, the pieces and what each of them is, and the joins as a train passes to the right
@@ -48,6 +49,7 @@ planned_route route = record {
   blocks = route.blocks.items;
   signal = route.signal;
   frees = route.frees;
+  sections = route.sections.items;
   pieces = route.pieces.items;
 }
 
@@ -122,6 +124,7 @@ pub record IsRoute (own : ℕ) (route : PlannedRoute) : Type 0 where
   pub blocks : All (IsSensor own) route.blocks
   pub signal : IfSome route.signal (IsSignal own)
   pub frees : IfSome route.frees (IsSensor own)
+  pub sections : All (IsSensor own) route.sections
   pub turnouts_once : AllPairs AreOther route.turnouts
   pub signal_once : turns_signal route route ≡ false
 

@@ -22,6 +22,7 @@ impl Key for Field {
             Field::Blocks => "blocks",
             Field::Signal => "signal",
             Field::Frees => "frees",
+            Field::Sections => "sections",
             Field::Plan => "plan",
             Field::Legend => "legend",
             Field::From => "from",

@@ -19,7 +19,7 @@ pub(crate) const PLAN_KEYS: [Field; 6] = [
 ];
 
 /// The keys of a route.
-pub(crate) const ROUTE_KEYS: [Field; 8] = [
+pub(crate) const ROUTE_KEYS: [Field; 9] = [
     Field::Number,
     Field::Name,
     Field::From,
@@ -28,6 +28,7 @@ pub(crate) const ROUTE_KEYS: [Field; 8] = [
     Field::Blocks,
     Field::Signal,
     Field::Frees,
+    Field::Sections,
 ];
 
 /// Returns how many keys there are.

@@ -26,6 +26,7 @@ pub enum Field {
     Blocks,
     Signal,
     Frees,
+    Sections,
     Plan,
     Legend,
     From,

@@ -1,6 +1,6 @@
 -- A route that is asked for again before it ended has not ended.
-use Rattle.std.proofs.Common.{◌≡◌, ◌≢◌, ◌⊎◌, inl, inr, ℕ, zero, suc, Bool, true, false}
-use Rattle.std.proofs.Common.{Option, Some, None, List, [], ◌∷◌, length, refl, sym, ◌∙◌, ap, subst}
+use Rattle.std.proofs.Common.{◌≡◌, ◌≢◌, ◌⊎◌, inl, inr, ℕ, Bool, true, false}
+use Rattle.std.proofs.Common.{Option, Some, None, List, length, refl, sym, ◌∙◌, ap, subst}
 use Rattle.std.proofs.lemmas.Bool.{cases_eq}
 use Rattle.std.specs.Option.{option_map_or}
 use Rattle.std.specs.Prelude.{◌&&◌, ◌||◌, if◌then◌else◌, replicate, slice_set}
@@ -15,19 +15,14 @@ use Rattle.srcp_routes.specs.declared.stage.Stage.{Stage}
 use Rattle.srcp_routes.specs.declared.stage.Stage.TheVariants as stage
 use Rattle.srcp_routes.proofs.Apart.{stage_at-set}
 use Rattle.srcp_routes.proofs.Pending.{Sends, due_sends}
+use Rattle.srcp_routes.proofs.Places.{at-replicate, at-set_else, at-set_off}
 
 -- what is marked after one route is not
 pub wanted_off : (wanted : List Bool) (k : ℕ) → wanted_at (slice_set wanted k false) k ≡ false
-wanted_off [] k = refl
-wanted_off (x ∷ xs) zero = refl
-wanted_off (x ∷ xs) (suc k) = wanted_off xs k
+wanted_off wanted k = at-set_off wanted k false
 
 pub wanted_else : (wanted : List Bool) (k n : ℕ) (b : Bool) → n ≢ k → wanted_at (slice_set wanted k b) n ≡ wanted_at wanted n
-wanted_else [] k n b differ = refl
-wanted_else (x ∷ xs) zero zero b differ = absurd (differ refl)
-wanted_else (x ∷ xs) zero (suc n) b differ = refl
-wanted_else (x ∷ xs) (suc k) zero b differ = refl
-wanted_else (x ∷ xs) (suc k) (suc n) b differ = wanted_else xs k n b (λ e. differ (ap suc e))
+wanted_else wanted k n b differ = at-set_else wanted k n b false differ
 
 pub after_else : (l : List Bool) (renewed ok b : Bool) (k n : ℕ) → n ≢ k
     → wanted_at (if renewed then slice_set l k b else (if ok then l else slice_set l k false)) n ≡ wanted_at l n
@@ -45,9 +40,7 @@ off_before again k n (inl same) h =
 off_before again k n (inr differ) h = (differ, sym (wanted_else again k n false differ) ∙ h)
 
 pub none_wanted : (count k : ℕ) → wanted_at (replicate count false) k ≡ false
-none_wanted zero k = refl
-none_wanted (suc count) zero = refl
-none_wanted (suc count) (suc k) = none_wanted count k
+none_wanted count k = at-replicate count k false
 
 -- a route that is asked for again has not ended
 abbrev pub AllBusy : List Stage → List Bool → Type 0

@@ -1,6 +1,6 @@
 -- While a route is held, each other that conflicts with it stays idle.
 use Rattle.std.proofs.Common.{◌≡◌, ◌≢◌, ◌⊎◌, inl, inr, ℕ, zero, suc, ◌<◌, Bool, true, false, not, ◌&&◌, ◌||◌}
-use Rattle.std.proofs.Common.{Option, Some, None, List, [], ◌∷◌, length, refl, sym, ◌∙◌, ap, arith, subst}
+use Rattle.std.proofs.Common.{Option, Some, None, List, [], ◌∷◌, length, refl, sym, ◌∙◌, subst}
 use Rattle.std.proofs.lemmas.Option.{slice_get_within}
 use Rattle.std.specs.Option.{option_map_or}
 use Rattle.std.specs.Prelude.{fold, if◌then◌else◌, is_some, map, slice_get, slice_set}
@@ -16,16 +16,12 @@ use Rattle.srcp_routes.specs.declared.route.Signal.{Signal}
 use Rattle.srcp_routes.specs.declared.stage.Stage.{Stage}
 use Rattle.srcp_routes.specs.declared.stage.Stage.TheVariants as stage
 use Rattle.srcp_routes.proofs.Loops.{all_at}
+use Rattle.srcp_routes.proofs.Places.{at-set, at-set_same}
 
 -- a stage that was written is that of its place, and every other is as it was
 pub stage_at-set : (stages : List Stage) (k : ℕ) (s : Stage) (n : ℕ)
     → ((n ≡ k) × (stage_at (slice_set stages k s) n ≡ s)) ⊎ (stage_at (slice_set stages k s) n ≡ stage_at stages n)
-stage_at-set [] k s n = inr refl
-stage_at-set (x ∷ xs) zero s zero = inl (refl, refl)
-stage_at-set (x ∷ xs) zero s (suc n) = inr refl
-stage_at-set (x ∷ xs) (suc k) s zero = inr refl
-stage_at-set (x ∷ xs) (suc k) s (suc n) =
-    elim (stage_at-set xs k s n) [ inl p ↦ inl (ap suc p.0, p.1) | inr e ↦ inr e ]
+stage_at-set stages k s n = at-set stages k s stage.Idle n
 
 -- no route is held as a session begins
 lost_not_held : (signal : Option Signal) → is_held (option_map_or (λ x. stage.Clearing) signal stage.Closing) ≡ false
@@ -38,9 +34,7 @@ stage_at-start (route ∷ routes) zero = lost_not_held route.signal
 stage_at-start (route ∷ routes) (suc n) = stage_at-start routes n
 
 pub stage_at-set_same : (stages : List Stage) (k : ℕ) (s : Stage) → k < length stages → stage_at (slice_set stages k s) k ≡ s
-stage_at-set_same [] k s lt = absurd (omega (arith, lt))
-stage_at-set_same (x ∷ xs) zero s lt = refl
-stage_at-set_same (x ∷ xs) (suc k) s lt = stage_at-set_same xs k s (omega (arith, lt))
+stage_at-set_same stages k s lt = at-set_same stages k s stage.Idle lt
 
 -- routes conflict both ways
 or_comm : (a b : Bool) → (a || b) ≡ (b || a)

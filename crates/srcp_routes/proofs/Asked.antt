@@ -1,103 +1,29 @@
 -- A route that is asked for, by events alone, is so in the table.
-use Rattle.std.proofs.Common.{◌≡◌, ◌≢◌, ◌⊎◌, inl, inr, ℕ, zero, suc, ◌+◌, ◌==◌, ◌<◌, Bool, true, false, not, ◌&&◌, ◌||◌}
+use Rattle.std.proofs.Common.{◌≡◌, ◌≢◌, ◌⊎◌, inl, inr, ℕ, ◌==◌, ◌<◌, Bool, true, false, not, ◌&&◌, ◌||◌}
 use Rattle.std.proofs.Common.{Option, Some, None, List, [], ◌∷◌, length, refl, ◌∙◌, ap, arith, subst}
 use Rattle.std.proofs.lemmas.Bool.{and_parts, cases_eq, eq-eqb, eqb-true, not-true, or_cases, or_left, or_right}
-use Rattle.std.proofs.lemmas.List.{length-set}
-use Rattle.std.proofs.lemmas.List.FromFn.{length-map-range_with_len}
 use Rattle.std.proofs.lemmas.Option.{slice_get_within}
-use Rattle.std.specs.List.{range_with_len}
 use Rattle.std.specs.Option.{option_map_or}
-use Rattle.std.specs.Prelude.{fold, if◌then◌else◌, is_some, map, option_and_then, replicate, slice_get, slice_set}
+use Rattle.std.specs.Prelude.{fold, if◌then◌else◌, is_some, option_and_then, slice_get, slice_set}
 use Rattle.srcp_routes.specs.Conflicts.{is_occupied, is_same, is_vacant}
 use Rattle.srcp_routes.specs.Laws.{AskedAreServed, IsServed, is_asked}
-use Rattle.srcp_routes.specs.Plan.{Table, is_freed, stage_at, still_wanted, wanted_at}
-use Rattle.srcp_routes.specs.Runs.{Run, asks_heard, is_freed_by, run, run_after, run_start}
+use Rattle.srcp_routes.specs.Plan.{Table, has_passed, is_freed, stage_at, still_wanted, wanted_at, wanted_behind}
+use Rattle.srcp_routes.specs.Runs.{Run, asks_heard, is_freed_by, is_passed, run, run_after, run_start}
 use Rattle.srcp_routes.specs.Stages.{is_held, is_idle}
-use Rattle.srcp_routes.specs.Steps.{answered, due, heard, is_renewed, is_taken_up, sent, stage_replied}
+use Rattle.srcp_routes.specs.Steps.{answered, due, followed, heard, is_renewed, is_taken_up, sent, stage_replied, told}
+use Rattle.srcp_routes.specs.declared.conflict.Sensed.{Sensed}
 use Rattle.srcp_routes.specs.declared.interlocking.Event.{Event}
 use Rattle.srcp_routes.specs.declared.interlocking.Event.TheVariants.{Ask, Give, Told, Reply, Lost}
 use Rattle.srcp_routes.specs.declared.route.Device.{Device}
 use Rattle.srcp_routes.specs.declared.route.Occupancy.{Occupancy}
 use Rattle.srcp_routes.specs.declared.route.Route.{Route}
 use Rattle.srcp_routes.proofs.Again.{after_else, wanted_else}
-use Rattle.srcp_routes.proofs.Left.{zero_more}
-use Rattle.srcp_routes.proofs.Pending.{Fits}
+use Rattle.srcp_routes.proofs.Behind.{Follows, after_follows, start_follows}
+use Rattle.srcp_routes.proofs.Followed.{passed_is, word}
+use Rattle.srcp_routes.proofs.Places.{at-places, at-set_same}
 use Rattle.srcp_routes.proofs.Rest.{IsResting, after_resting, resting_served}
-use Rattle.srcp_routes.proofs.Sound.{IsSound, after_sound, start_sound}
-
--- ---- the table has a mark for each route
-
-record IsLong (routes : List Route) (t : Table) : Type 0 where
-  wanted : length t.wanted ≡ length routes
-  again : length t.again ≡ length routes
-
-choose_long : (l k : List Bool) (test : Bool) (count : ℕ) → length l ≡ count → length k ≡ count
-    → length (if test then l else k) ≡ count
-choose_long l k true count a b = a
-choose_long l k false count a b = b
-
-set_long : (l : List Bool) (k : ℕ) (b : Bool) (count : ℕ) → length l ≡ count → length (slice_set l k b) ≡ count
-set_long l k b count a = length-set l k b ∙ a
-
-replicate_long : (count : ℕ) → length (replicate count false) ≡ count
-replicate_long zero = refl
-replicate_long (suc count) = ap suc (replicate_long count)
-
-after_long : (l : List Bool) (renewed ok b : Bool) (n count : ℕ) → length l ≡ count
-    → length (if renewed then slice_set l n b else (if ok then l else slice_set l n false)) ≡ count
-after_long l renewed ok b n count a = choose_long (slice_set l n b) (if ok then l else slice_set l n false) renewed count
-    (set_long l n b count a) (choose_long l (slice_set l n false) ok count a (set_long l n false count a))
-
-reply_long : (routes : List Route) (t : Table) (ok : Bool) (x : Option ℕ) → IsLong routes t
-    → IsLong routes (option_map_or (answered t ok) x t)
-reply_long routes t ok None long = long
-reply_long routes t ok (Some n) long = record {
-  wanted = after_long t.wanted (is_renewed t ok n) ok true n (length routes) long.wanted;
-  again = after_long t.again (is_renewed t ok n) ok false n (length routes) long.again;
-}
-
-heard_long : (routes : List Route) (t : Table) (event : Event) → Fits routes t → IsLong routes t
-    → IsLong routes (heard t event)
-heard_long routes t (Ask n) fits long = record {
-  wanted = choose_long (slice_set t.wanted n true) t.wanted (is_taken_up t n) (length routes)
-      (set_long t.wanted n true (length routes) long.wanted) long.wanted;
-  again = choose_long t.again (slice_set t.again n true) (is_taken_up t n) (length routes) long.again
-      (set_long t.again n true (length routes) long.again);
-}
-heard_long routes t (Give n) fits long = record {
-  wanted = set_long t.wanted n false (length routes) long.wanted;
-  again = set_long t.again n false (length routes) long.again;
-}
-heard_long routes t (Told sensor now) fits long = record {
-  wanted = choose_long (still_wanted t sensor) t.wanted (is_vacant now && is_occupied t.sensors sensor) (length routes)
-      (length-map-range_with_len (λ n. wanted_at t.wanted n && not (is_freed t.routes t.stages sensor n)) 0
-      (length t.routes) ∙ ap length fits.plan) long.wanted;
-  again = long.again;
-}
-heard_long routes t (Reply ok) fits long = reply_long routes t ok t.waiting long
-heard_long routes t Lost fits long = record {
-  wanted = replicate_long (length t.routes) ∙ ap length fits.plan;
-  again = replicate_long (length t.routes) ∙ ap length fits.plan;
-}
-
-next_long : (routes : List Route) (t : Table) (waits : Bool) (d : Option ℕ) → IsLong routes t
-    → IsLong routes (if waits then record { table = t; order = None } else sent t d).table
-next_long routes t true d long = long
-next_long routes t false None long = long
-next_long routes t false (Some n) long = record { wanted = long.wanted; again = long.again }
 
 -- ---- which routes are asked for
-
-set_here : (l : List Bool) (k : ℕ) (b : Bool) → k < length l → wanted_at (slice_set l k b) k ≡ b
-set_here [] k b lt = absurd (omega (arith, lt))
-set_here (x ∷ xs) zero b lt = refl
-set_here (x ∷ xs) (suc k) b lt = set_here xs k b (omega (arith, lt))
-
-range_at : (f : ℕ → Bool) (a k n : ℕ) → n < k → wanted_at (map f (range_with_len a k)) n ≡ f (a + n)
-range_at f a zero n lt = absurd (omega (arith, lt))
-range_at f a (suc k) zero lt = let same : a ≡ a + 0 = omega arith in ap f same
-range_at f a (suc k) (suc n) lt =
-    let same : (a + 1) + n ≡ a + suc n = omega arith in range_at f (a + 1) k n (omega (arith, lt)) ∙ ap f same
 
 either : (w v a b : Bool) → v ≡ w → b ≡ a → (w || a) ≡ true → (v || b) ≡ true
 either w v a b e d h = ap (λ (x : Bool). x || b) e ∙ ap (λ (x : Bool). w || x) d ∙ h
@@ -107,9 +33,9 @@ asked_after : (t : Table) (m n : ℕ) (up : Bool) → (n ≡ m) ⊎ (n ≢ m) �
     → (wanted_at (if up then slice_set t.wanted m true else t.wanted) n
     || wanted_at (if up then t.again else slice_set t.again m true) n) ≡ true
 asked_after t m n true (inl same) lt lt' before = or_left (wanted_at (slice_set t.wanted m true) n) (wanted_at t.again n)
-    (subst (λ (i : ℕ). wanted_at (slice_set t.wanted i true) n ≡ true) same (set_here t.wanted n true lt))
+    (subst (λ (i : ℕ). wanted_at (slice_set t.wanted i true) n ≡ true) same (at-set_same t.wanted n true false lt))
 asked_after t m n false (inl same) lt lt' before = or_right (wanted_at t.wanted n) (wanted_at (slice_set t.again m true) n)
-    (subst (λ (i : ℕ). wanted_at (slice_set t.again i true) n ≡ true) same (set_here t.again n true lt'))
+    (subst (λ (i : ℕ). wanted_at (slice_set t.again i true) n ≡ true) same (at-set_same t.again n true false lt'))
 asked_after t m n true (inr differ) lt lt' before = either (wanted_at t.wanted n)
     (wanted_at (slice_set t.wanted m true) n) (wanted_at t.again n) (wanted_at t.again n)
     (wanted_else t.wanted m n true differ) refl (before differ)
@@ -149,11 +75,18 @@ told_asked t sensor now n true is lt h asks =
     let freed : is_freed t.routes t.stages sensor n ≡ false =
     not_freed (option_and_then (λ (a : Route). a.frees) (slice_get t.routes n)) sensor (is_held (stage_at t.stages n)) free in
     let same : wanted_at (still_wanted t sensor) n ≡ wanted_at t.wanted n =
-    range_at (λ i. wanted_at t.wanted i && not (is_freed t.routes t.stages sensor i)) 0 (length t.routes) n lt
-    ∙ ap (λ (i : ℕ). wanted_at t.wanted i && not (is_freed t.routes t.stages sensor i)) (zero_more n)
+    at-places (λ i. wanted_at t.wanted i && not (is_freed t.routes t.stages sensor i)) false (length t.routes) n lt
     ∙ still_on (wanted_at t.wanted n) (is_freed t.routes t.stages sensor n) freed in
     either (wanted_at t.wanted n) (wanted_at (still_wanted t sensor) n) (wanted_at t.again n) (wanted_at t.again n)
     same refl asks
+
+-- a route that is asked for is so once the trains are followed, if its own has not passed
+followed_asked : (t : Table) (now : Sensed) (n : ℕ) → n < length t.routes
+    → has_passed t.routes t.sensors t.trains now n ≡ false → is_asked t n ≡ true → is_asked (followed t now) n ≡ true
+followed_asked t now n lt none asks = either (wanted_at t.wanted n) (wanted_at (wanted_behind t now) n)
+    (wanted_at t.again n) (wanted_at t.again n)
+    (at-places (λ i. wanted_at t.wanted i && not (has_passed t.routes t.sensors t.trains now i)) false (length t.routes) n lt
+    ∙ still_on (wanted_at t.wanted n) (has_passed t.routes t.sensors t.trains now n) none) refl asks
 
 replied_asked : (t : Table) (ok renewed : Bool) (m n : ℕ) → (n ≡ m) ⊎ (n ≢ m) → n < length t.wanted
     → (ok ≡ false → n ≢ m) → (ok ≡ false → renewed ≡ false) → is_asked t n ≡ true
@@ -167,7 +100,7 @@ replied_asked t ok renewed m n (inr differ) lt other none asks = either (wanted_
     (after_else t.wanted renewed ok true m n differ) (after_else t.again renewed ok false m n differ) asks
 replied_asked t ok true m n (inl same) lt other none asks =
     or_left (wanted_at (slice_set t.wanted m true) n) (wanted_at (slice_set t.again m false) n)
-    (subst (λ (i : ℕ). wanted_at (slice_set t.wanted i true) n ≡ true) same (set_here t.wanted n true lt))
+    (subst (λ (i : ℕ). wanted_at (slice_set t.wanted i true) n ≡ true) same (at-set_same t.wanted n true false lt))
 replied_asked t true false m n (inl same) lt other none asks = asks
 replied_asked t false false m n (inl same) lt other none asks = absurd (other refl same)
 
@@ -186,16 +119,15 @@ reply_asked t ok (Some m) n lt other asks = replied_asked t ok (is_renewed t ok 
 -- ---- what holds of each run
 
 record Asks (routes : List Route) (r : Run) : Type 0 where
-  sound : IsSound routes r.table
-  long : IsLong routes r.table
+  follows : Follows routes r
   asked : (n : ℕ) (route : Route) → slice_get routes n ≡ Some route → r.asks n ≡ true → is_asked r.table n ≡ true
 
 heard_asked : (routes : List Route) (r : Run) (event : Event) (n : ℕ) (route : Route) → Asks routes r
     → slice_get routes n ≡ Some route → asks_heard r event n ≡ true → is_asked (heard r.table event) n ≡ true
 heard_asked routes r (Ask m) n route asks is h =
     let lt : n < length routes = slice_get_within routes n route is in
-    asked_after r.table m n (is_taken_up r.table m) (cases_eq n m) (omega (arith, lt, asks.long.wanted))
-    (omega (arith, lt, asks.long.again))
+    asked_after r.table m n (is_taken_up r.table m) (cases_eq n m)
+    (omega (arith, lt, asks.follows.long.wanted)) (omega (arith, lt, asks.follows.long.again))
     (λ differ. elim (or_cases (n == m) (r.asks n) h) [
       | inl same ↦ absurd (differ (eqb-true n m same))
       | inr before ↦ asks.asked n route is before
@@ -206,17 +138,27 @@ heard_asked routes r (Give m) n route asks is h =
     (wanted_at (slice_set r.table.again m false) n) (wanted_else r.table.wanted m n false (differs n m both.0))
     (wanted_else r.table.again m n false (differs n m both.0)) (asks.asked n route is both.1)
 heard_asked routes r (Told sensor now) n route asks is h =
+    let one : (not (is_passed r (Told sensor now) n) ≡ true)
+    × ((not (is_vacant now && is_freed_by r.table.routes n sensor) && r.asks n) ≡ true) =
+    and_parts (not (is_passed r (Told sensor now) n))
+    (not (is_vacant now && is_freed_by r.table.routes n sensor) && r.asks n) h in
     let both : (not (is_vacant now && is_freed_by r.table.routes n sensor) ≡ true) × (r.asks n ≡ true) =
-    and_parts (not (is_vacant now && is_freed_by r.table.routes n sensor)) (r.asks n) h in
-    told_asked r.table sensor now n (is_vacant now && is_occupied r.table.sensors sensor) refl
-    (omega (arith, slice_get_within routes n route is, ap length asks.sound.fits.plan)) both.0
-    (asks.asked n route is both.1)
+    and_parts (not (is_vacant now && is_freed_by r.table.routes n sensor)) (r.asks n) one.1 in
+    let here : slice_get r.table.routes n ≡ Some route =
+    ap (λ (l : List Route). slice_get l n) asks.follows.sound.fits.plan ∙ is in
+    let lt : n < length r.table.routes = slice_get_within r.table.routes n route here in
+    followed_asked (told r.table sensor now) (word sensor now) n lt
+    (passed_is r sensor now n route asks.follows.known asks.follows.taken here (asks.follows.trains n route here)
+    ∙ not-true (is_passed r (Told sensor now) n) one.0)
+    (told_asked r.table sensor now n (is_vacant now && is_occupied r.table.sensors sensor) refl lt both.0
+    (asks.asked n route is both.1))
 heard_asked routes r (Reply true) n route asks is h = reply_asked r.table true r.table.waiting n
-    (omega (arith, slice_get_within routes n route is, asks.long.wanted)) (λ e. absurd (cc)) (asks.asked n route is h)
+    (omega (arith, slice_get_within routes n route is, asks.follows.long.wanted)) (λ e. absurd (cc)) (asks.asked n route is h)
 heard_asked routes r (Reply false) n route asks is h =
     let both : (not (option_map_or (λ m. n == m) r.table.waiting false) ≡ true) × (r.asks n ≡ true) =
     and_parts (not (option_map_or (λ m. n == m) r.table.waiting false)) (r.asks n) h in
-    reply_asked r.table false r.table.waiting n (omega (arith, slice_get_within routes n route is, asks.long.wanted))
+    reply_asked r.table false r.table.waiting n
+    (omega (arith, slice_get_within routes n route is, asks.follows.long.wanted))
     (λ e. not-true (option_map_or (λ m. n == m) r.table.waiting false) both.0) (asks.asked n route is both.1)
 heard_asked routes r Lost n route asks is h = absurd (cc)
 
@@ -228,17 +170,14 @@ next_asked t false (Some m) n asks = asks
 
 after_asks : (routes : List Route) (r : Run) (event : Event) → Asks routes r → Asks routes (run_after r event)
 after_asks routes r event asks = record {
-  sound = after_sound routes r.table event asks.sound;
-  long = next_long routes (heard r.table event) (is_some (heard r.table event).waiting) (due (heard r.table event))
-      (heard_long routes r.table event asks.sound.fits asks.long);
+  follows = after_follows routes r event asks.follows;
   asked = λ n route is h. next_asked (heard r.table event) (is_some (heard r.table event).waiting)
       (due (heard r.table event)) n (heard_asked routes r event n route asks is h);
 }
 
 start_asks : (routes : List Route) → Asks routes (run_start routes)
 start_asks routes = record {
-  sound = start_sound routes;
-  long = record { wanted = replicate_long (length routes); again = replicate_long (length routes) };
+  follows = start_follows routes;
   asked = λ n route is h. absurd (cc);
 }
 
@@ -255,5 +194,5 @@ pub asked_are_served : AskedAreServed
 asked_are_served routes events event n route is none asks =
     let all : Asks routes (run routes events) = fold_asks routes (run_start routes) events (start_asks routes) in
     served_at routes (run_after (run routes events) event).table n route
-    (after_resting routes (run routes events).table event all.sound none) is
+    (after_resting routes (run routes events).table event all.follows.sound none) is
     ((after_asks routes (run routes events) event all).asked n route is asks)

@@ -1,25 +1,31 @@
--- A sensor that the table has as free was last told to be 0.
+-- A sensor that the table has as free was last told to be 0, and one that it has as occupied was told to be 1.
 use Rattle.std.proofs.Common.{◌≡◌, ◌⊎◌, inl, inr, ◌++◌, ◌==◌, ℕ, Bool, true, false, ◌&&◌, Option, Some, None, List, [], ◌∷◌}
-use Rattle.std.proofs.Common.{refl, sym, ◌∙◌, subst}
+use Rattle.std.proofs.Common.{◌||◌, refl, sym, ◌∙◌, ap, subst}
 use Rattle.std.proofs.lemmas.Bool.{and_from, and_parts, eq-eqb, eqb-true, or_cases, or_from, or_left, or_right}
 use Rattle.std.proofs.lemmas.List.Folds.{list_any-append}
 use Rattle.std.specs.Option.{option_map_or}
+use Rattle.std.specs.List.{list_any}
 use Rattle.std.specs.Prelude.{if◌then◌else◌, is_some, map, option_to_list}
-use Rattle.srcp_routes.specs.Conflicts.{is_free, is_same, is_vacant, route_sensors, sensors_of, told_sensor, unknown}
+use Rattle.srcp_routes.specs.Conflicts.{is_same, route_sensors, sensors_of, told_sensor, unknown}
 use Rattle.srcp_routes.specs.Plan.{Table}
-use Rattle.srcp_routes.specs.Runs.{free_heard}
+use Rattle.srcp_routes.specs.Runs.{sensed_heard}
 use Rattle.srcp_routes.specs.Steps.{after, answered, due, heard, sent}
 use Rattle.srcp_routes.specs.declared.conflict.Sensed.{Sensed}
 use Rattle.srcp_routes.specs.declared.interlocking.Event.{Event}
 use Rattle.srcp_routes.specs.declared.interlocking.Event.TheVariants.{Ask, Give, Told, Reply, Lost}
 use Rattle.srcp_routes.specs.declared.route.Device.{Device}
 use Rattle.srcp_routes.specs.declared.route.Occupancy.{Occupancy}
+use Rattle.srcp_routes.specs.declared.route.Occupancy.TheVariants as occupancy
 use Rattle.srcp_routes.specs.declared.route.Route.{Route}
 use Rattle.srcp_routes.proofs.Locks.{same_back}
 
--- what is known to be free is free
-abbrev pub IsFreeRightly : List Sensed → (Device → Bool) → Type 0
-IsFreeRightly sensors free = (x : Device) → is_free sensors x ≡ true → free x ≡ true
+-- the table has a sensor of which this is known
+abbrev pub known_as : (Occupancy → Bool) → List Sensed → Device → Bool
+known_as of sensors x = list_any (λ (known : Sensed). of known.occupancy && is_same known.sensor x) sensors
+
+-- what is known of a sensor is so
+abbrev pub IsKnownRightly : (Occupancy → Bool) → List Sensed → (Device → Bool) → Type 0
+IsKnownRightly of sensors is = (x : Device) → known_as of sensors x ≡ true → is x ≡ true
 
 pub same_through : (x y z : Device) → is_same x y ≡ true → is_same y z ≡ true → is_same x z ≡ true
 same_through x y z h g =
@@ -32,38 +38,37 @@ same_through x y z h g =
     (eq-eqb x.address z.address (eqb-true x.address y.address one.1 ∙ eqb-true y.address z.address two.1))
 
 -- what is known of one sensor after a telling
-told_one : (known : Sensed) (sensor x : Device) (now : Occupancy) (here there : Bool) → is_same known.sensor sensor ≡ here
-    → is_same x sensor ≡ there
-    → (is_vacant (if here then record known { occupancy = now } else known).occupancy
+told_one : (of : Occupancy → Bool) (known : Sensed) (sensor x : Device) (now : Occupancy) (here there : Bool)
+    → is_same known.sensor sensor ≡ here → is_same x sensor ≡ there
+    → (of (if here then record known { occupancy = now } else known).occupancy
     && is_same (if here then record known { occupancy = now } else known).sensor x) ≡ true
-    → ((there ≡ true) × (is_vacant now ≡ true))
-    ⊎ ((there ≡ false) × ((is_vacant known.occupancy && is_same known.sensor x) ≡ true))
-told_one known sensor x now true true at is h = inl (refl, (and_parts (is_vacant now) (is_same known.sensor x) h).0)
-told_one known sensor x now true false at is h =
-    let both : (is_vacant now ≡ true) × (is_same known.sensor x ≡ true) = and_parts (is_vacant now) (is_same known.sensor x) h in
+    → ((there ≡ true) × (of now ≡ true)) ⊎ ((there ≡ false) × ((of known.occupancy && is_same known.sensor x) ≡ true))
+told_one of known sensor x now true true at is h = inl (refl, (and_parts (of now) (is_same known.sensor x) h).0)
+told_one of known sensor x now true false at is h =
+    let both : (of now ≡ true) × (is_same known.sensor x ≡ true) = and_parts (of now) (is_same known.sensor x) h in
     let same : is_same x sensor ≡ true = same_through x known.sensor sensor (same_back known.sensor x both.1) at in
     absurd (cc)
-told_one known sensor x now false true at is h =
-    let both : (is_vacant known.occupancy ≡ true) × (is_same known.sensor x ≡ true) =
-    and_parts (is_vacant known.occupancy) (is_same known.sensor x) h in
+told_one of known sensor x now false true at is h =
+    let both : (of known.occupancy ≡ true) × (is_same known.sensor x ≡ true) =
+    and_parts (of known.occupancy) (is_same known.sensor x) h in
     let same : is_same known.sensor sensor ≡ true = same_through known.sensor x sensor both.1 is in
     absurd (cc)
-told_one known sensor x now false false at is h = inr (refl, h)
+told_one of known sensor x now false false at is h = inr (refl, h)
 
-told_free : (sensors : List Sensed) (sensor x : Device) (now : Occupancy) (there : Bool) → is_same x sensor ≡ there
-    → is_free (map (told_sensor sensor now) sensors) x ≡ true
-    → ((there ≡ true) × (is_vacant now ≡ true)) ⊎ ((there ≡ false) × (is_free sensors x ≡ true))
-told_free [] sensor x now there is h = absurd (cc)
-told_free (known ∷ sensors) sensor x now there is h =
-    elim (or_cases (is_vacant (told_sensor sensor now known).occupancy && is_same (told_sensor sensor now known).sensor x)
-    (is_free (map (told_sensor sensor now) sensors) x) h) [
-      | inl here ↦ elim (told_one known sensor x now (is_same known.sensor sensor) there refl is here) [
+told_known : (of : Occupancy → Bool) (sensors : List Sensed) (sensor x : Device) (now : Occupancy) (there : Bool)
+    → is_same x sensor ≡ there → known_as of (map (told_sensor sensor now) sensors) x ≡ true
+    → ((there ≡ true) × (of now ≡ true)) ⊎ ((there ≡ false) × (known_as of sensors x ≡ true))
+told_known of [] sensor x now there is h = absurd (cc)
+told_known of (known ∷ sensors) sensor x now there is h =
+    elim (or_cases (of (told_sensor sensor now known).occupancy && is_same (told_sensor sensor now known).sensor x)
+    (known_as of (map (told_sensor sensor now) sensors) x) h) [
+      | inl here ↦ elim (told_one of known sensor x now (is_same known.sensor sensor) there refl is here) [
         | inl p ↦ inl p
-        | inr p ↦ inr (p.0, or_left (is_vacant known.occupancy && is_same known.sensor x) (is_free sensors x) p.1)
+        | inr p ↦ inr (p.0, or_left (of known.occupancy && is_same known.sensor x) (known_as of sensors x) p.1)
       ]
-      | inr later ↦ elim (told_free sensors sensor x now there is later) [
+      | inr later ↦ elim (told_known of sensors sensor x now there is later) [
         | inl p ↦ inl p
-        | inr p ↦ inr (p.0, or_right (is_vacant known.occupancy && is_same known.sensor x) (is_free sensors x) p.1)
+        | inr p ↦ inr (p.0, or_right (of known.occupancy && is_same known.sensor x) (known_as of sensors x) p.1)
       ]
     ]
 
@@ -78,42 +83,52 @@ pub answer_sensors : (t : Table) (ok : Bool) (x : Option ℕ) → (option_map_or
 answer_sensors t ok None = refl
 answer_sensors t ok (Some n) = refl
 
-as_before : (sensors later : List Sensed) (free : Device → Bool) → later ≡ sensors → IsFreeRightly sensors free
-    → IsFreeRightly later free
-as_before sensors later free e all = subst (λ (l : List Sensed). IsFreeRightly l free) (sym e) all
+as_before : (of : Occupancy → Bool) (sensors later : List Sensed) (is : Device → Bool) → later ≡ sensors
+    → IsKnownRightly of sensors is → IsKnownRightly of later is
+as_before of sensors later is e all = subst (λ (l : List Sensed). IsKnownRightly of l is) (sym e) all
 
-pub heard_free : (t : Table) (event : Event) (free : Device → Bool) → IsFreeRightly t.sensors free
-    → IsFreeRightly (heard t event).sensors (free_heard free event)
-heard_free t (Ask n) free all = all
-heard_free t (Give n) free all = all
-heard_free t (Told sensor now) free all = λ x h. if_told (is_same x sensor) (is_vacant now) (free x) (is_free t.sensors x ≡ true)
-    (told_free t.sensors sensor x now (is_same x sensor) refl h) (all x)
-heard_free t (Reply ok) free all = as_before t.sensors _ free (answer_sensors t ok t.waiting) all
-heard_free t Lost free all = all
+pub heard_free : (of : Occupancy → Bool) (t : Table) (event : Event) (is : Device → Bool)
+    → IsKnownRightly of t.sensors is → IsKnownRightly of (heard t event).sensors (sensed_heard of is event)
+heard_free of t (Ask n) is all = all
+heard_free of t (Give n) is all = all
+heard_free of t (Told sensor now) is all = λ x h.
+    if_told (is_same x sensor) (of now) (is x) (known_as of t.sensors x ≡ true)
+    (told_known of t.sensors sensor x now (is_same x sensor) refl h) (all x)
+heard_free of t (Reply ok) is all = as_before of t.sensors _ is (answer_sensors t ok t.waiting) all
+heard_free of t Lost is all = all
 
-next_free : (t : Table) (waits : Bool) (d : Option ℕ) (free : Device → Bool) → IsFreeRightly t.sensors free
-    → IsFreeRightly (if waits then record { table = t; order = None } else sent t d).table.sensors free
-next_free t true d free all = all
-next_free t false None free all = all
-next_free t false (Some n) free all = all
+next_free : (of : Occupancy → Bool) (t : Table) (waits : Bool) (d : Option ℕ) (is : Device → Bool)
+    → IsKnownRightly of t.sensors is
+    → IsKnownRightly of (if waits then record { table = t; order = None } else sent t d).table.sensors is
+next_free of t true d is all = all
+next_free of t false None is all = all
+next_free of t false (Some n) is all = all
 
-pub after_free : (t : Table) (event : Event) (free : Device → Bool) → IsFreeRightly t.sensors free
-    → IsFreeRightly (after t event).sensors (free_heard free event)
-after_free t event free all = next_free (heard t event) (is_some (heard t event).waiting) (due (heard t event))
-    (free_heard free event) (heard_free t event free all)
+pub after_free : (of : Occupancy → Bool) (t : Table) (event : Event) (is : Device → Bool) → IsKnownRightly of t.sensors is
+    → IsKnownRightly of (after t event).sensors (sensed_heard of is event)
+after_free of t event is all = next_free of (heard t event) (is_some (heard t event).waiting) (due (heard t event))
+    (sensed_heard of is event) (heard_free of t event is all)
 
--- before any event nothing is known to be free
-none_free : (xs ys : List Sensed) (x : Device) → is_free xs x ≡ false → is_free ys x ≡ false → is_free (xs ++ ys) x ≡ false
-none_free xs ys x one two = list_any-append _ xs ys ∙ or_from (is_free xs x) (is_free ys x) one two
+-- before any event nothing is known
+none_known : (of : Occupancy → Bool) (xs ys : List Sensed) (x : Device) → known_as of xs x ≡ false
+    → known_as of ys x ≡ false → known_as of (xs ++ ys) x ≡ false
+none_known of xs ys x one two = list_any-append _ xs ys ∙ or_from (known_as of xs x) (known_as of ys x) one two
 
-unknown_free : (devices : List Device) (x : Device) → is_free (map unknown devices) x ≡ false
-unknown_free [] x = refl
-unknown_free (device ∷ devices) x = unknown_free devices x
+unknown_known : (of : Occupancy → Bool) (devices : List Device) (x : Device) → of occupancy.Unknown ≡ false
+    → known_as of (map unknown devices) x ≡ false
+unknown_known of [] x none = refl
+unknown_known of (device ∷ devices) x none =
+    ap (λ (b : Bool). (b && is_same device x) || known_as of (map unknown devices) x) none
+    ∙ unknown_known of devices x none
 
-sensors_free : (routes : List Route) (x : Device) → is_free (sensors_of routes) x ≡ false
-sensors_free [] x = refl
-sensors_free (route ∷ routes) x = none_free (route_sensors route) (sensors_of routes) x
-    (unknown_free (route.blocks.items ++ option_to_list route.frees) x) (sensors_free routes x)
+sensors_known : (of : Occupancy → Bool) (routes : List Route) (x : Device) → of occupancy.Unknown ≡ false
+    → known_as of (sensors_of routes) x ≡ false
+sensors_known of [] x none = refl
+sensors_known of (route ∷ routes) x none = none_known of (route_sensors route) (sensors_of routes) x
+    (unknown_known of (route.blocks.items ++ (option_to_list route.frees ++ route.sections.items)) x none)
+    (sensors_known of routes x none)
 
-pub start_free : (routes : List Route) → IsFreeRightly (sensors_of routes) (λ x. false)
-start_free routes x h = let no : is_free (sensors_of routes) x ≡ false = sensors_free routes x in absurd (cc)
+pub start_free : (of : Occupancy → Bool) (routes : List Route) → of occupancy.Unknown ≡ false
+    → IsKnownRightly of (sensors_of routes) (λ x. false)
+start_free of routes none x h =
+    let no : known_as of (sensors_of routes) x ≡ false = sensors_known of routes x none in absurd (cc)

@@ -1,6 +1,7 @@
 -- What holds of each run.
 use Rattle.std.proofs.Common.{◌≡◌, true, false, List, [], ◌∷◌, refl}
 use Rattle.std.specs.Prelude.{fold, is_some, map}
+use Rattle.srcp_routes.specs.Conflicts.{is_vacant}
 use Rattle.srcp_routes.specs.Laws.{AreApart}
 use Rattle.srcp_routes.specs.Plan.{stage_at}
 use Rattle.srcp_routes.specs.Runs.{Run, granted, has_signal, heard_of, lit, put, run, run_after, run_start, stopped, told_heard}
@@ -10,7 +11,7 @@ use Rattle.srcp_routes.specs.declared.interlocking.Event.{Event}
 use Rattle.srcp_routes.specs.declared.route.Route.{Route}
 use Rattle.srcp_routes.proofs.Apart.{after_apart, stage_at-start, start_apart}
 use Rattle.srcp_routes.proofs.Crossings.{AllTold, heard_told, next_told}
-use Rattle.srcp_routes.proofs.Free.{IsFreeRightly, after_free, start_free}
+use Rattle.srcp_routes.proofs.Free.{IsKnownRightly, after_free, start_free}
 use Rattle.srcp_routes.proofs.Locks.{AllLocked, heard_locked, locks_held, next_locked}
 use Rattle.srcp_routes.proofs.Pending.{Fits, Pends, after_fits, heard_fits, start_fits, step_pends}
 use Rattle.srcp_routes.proofs.Signals.{AllGo, heard_may_go, heard_shown, next_goes, start_may_go}
@@ -27,7 +28,7 @@ pub record Holds (routes : List Route) (r : Run) : Type 0 where
   pub shown : AllGo false r.table.routes r.table.stages r.shown
   pub lit : AllLit r.table.routes r.table.stages r.lit
   pub may_go : AllGo true r.table.routes r.table.stages r.may_go
-  pub free : IsFreeRightly r.table.sensors r.free
+  pub free : IsKnownRightly is_vacant r.table.sensors r.free
   pub told : AllTold r.table.stages r.told
 
 pub after_holds : (routes : List Route) (r : Run) (event : Event) → Holds routes r → Holds routes (run_after r event)
@@ -52,7 +53,7 @@ after_holds routes r event holds = record {
   may_go = next_goes true routes (heard r.table event) (heard_of stopped (has_signal r.table.routes) r.may_go r event)
       (is_some (heard r.table event).waiting) (due (heard r.table event)) (heard_fits routes r.table event holds.fits) refl
       (heard_may_go r event holds.pends holds.may_go);
-  free = after_free r.table event r.free holds.free;
+  free = after_free is_vacant r.table event r.free holds.free;
   told = next_told routes (heard r.table event) (told_heard r event) (is_some (heard r.table event).waiting)
       (due (heard r.table event)) (heard_fits routes r.table event holds.fits) refl
       (heard_told r event holds.pends holds.told);
@@ -71,7 +72,7 @@ start_holds routes = record {
   shown = λ n route is h. absurd (cc);
   lit = start_lit routes;
   may_go = start_may_go routes;
-  free = start_free routes;
+  free = start_free is_vacant routes refl;
   told = λ n h. absurd (cc);
 }
 

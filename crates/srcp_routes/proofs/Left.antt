@@ -1,19 +1,18 @@
 -- A route that was given back while its signal shows "go" is wanted no more until it has ended.
-use Rattle.std.proofs.Common.{◌≡◌, ◌≢◌, ◌⊎◌, inl, inr, ℕ, zero, suc, ◌+◌, ◌==◌, ◌<◌, Bool, true, false, not, ◌&&◌, ◌||◌}
+use Rattle.std.proofs.Common.{◌≡◌, ◌≢◌, ◌⊎◌, inl, inr, ℕ, ◌==◌, ◌<◌, Bool, true, false, ◌&&◌, ◌||◌}
 use Rattle.std.proofs.Common.{Option, Some, None, List, [], ◌∷◌, length, refl, sym, ◌∙◌, ap, arith, subst}
-use Rattle.std.proofs.lemmas.Bool.{and_from, and_parts, cases_eq, eqb-true, or_cases, or_right}
+use Rattle.std.proofs.lemmas.Bool.{and_from, and_parts, cases_eq, eqb-true, or_cases, or_left, or_right}
 use Rattle.std.proofs.lemmas.Option.{slice_get_within}
-use Rattle.std.specs.List.{range_with_len}
 use Rattle.std.specs.Option.{option_map_or}
-use Rattle.std.specs.Prelude.{fold, if◌then◌else◌, is_some, map, option_and_then, slice_get, slice_set}
-use Rattle.srcp_routes.specs.Conflicts.{are_free, is_occupied, is_same, is_vacant}
+use Rattle.std.specs.Prelude.{fold, if◌then◌else◌, is_some, option_and_then, slice_get, slice_set}
+use Rattle.srcp_routes.specs.Conflicts.{are_free, is_occupied, is_vacant}
 use Rattle.srcp_routes.specs.Laws.{LeftEnds, is_unstopped, stays}
-use Rattle.srcp_routes.specs.Plan.{Table, is_freed, stage_at, still_wanted, wanted_at}
-use Rattle.srcp_routes.specs.Runs.{Run, Signals, gives_back, heard_of, is_freed_by, left_heard, run, run_after, run_start}
-use Rattle.srcp_routes.specs.Runs.{signals_sent, stopped}
+use Rattle.srcp_routes.specs.Plan.{Table, has_passed, is_freed, stage_at, wanted_at}
+use Rattle.srcp_routes.specs.Runs.{Run, Signals, gives_back, heard_of, is_freed_by, is_passed, left_heard, run, run_after}
+use Rattle.srcp_routes.specs.Runs.{run_start, signals_sent, stopped}
 use Rattle.srcp_routes.specs.Stages.{is_held, is_idle}
 use Rattle.srcp_routes.specs.Steps.{answered, due, heard, is_renewed, is_taken_up, may_begin, sent, stage_replied}
-use Rattle.srcp_routes.specs.Steps.{step}
+use Rattle.srcp_routes.specs.Steps.{step, told}
 use Rattle.srcp_routes.specs.declared.interlocking.Event.{Event}
 use Rattle.srcp_routes.specs.declared.interlocking.Event.TheVariants.{Ask, Give, Told, Reply, Lost}
 use Rattle.srcp_routes.specs.declared.route.Device.{Device}
@@ -26,11 +25,13 @@ use Rattle.srcp_routes.specs.declared.stage.Stage.TheVariants as stage
 use Rattle.srcp_routes.proofs.Again.{after_else, wanted_else, wanted_off}
 use Rattle.srcp_routes.proofs.Apart.{stage_at-set_same}
 use Rattle.srcp_routes.proofs.Holds.{Holds, after_holds, start_holds}
-use Rattle.srcp_routes.proofs.Known.{AllKnown, after_known, answer_routes, start_known}
+use Rattle.srcp_routes.proofs.Behind.{Follows, after_follows, start_follows}
+use Rattle.srcp_routes.proofs.Fallen.{behind_left, fallen_left, freed_of, off_of_freed, off_of_wanted}
+use Rattle.srcp_routes.proofs.Followed.{passed_is, word}
+use Rattle.srcp_routes.proofs.Known.{answer_routes, is_section_of}
 use Rattle.srcp_routes.proofs.Pending.{Fits, Pends}
 use Rattle.srcp_routes.proofs.Rest.{IsResting, after_resting, rests_at, stays_back, stays_of}
 use Rattle.srcp_routes.proofs.Signals.{heard_shown}
-use Rattle.srcp_routes.proofs.Sound.{IsSound, after_sound, start_sound}
 use Rattle.srcp_routes.proofs.Touched.{goes}
 
 -- each route that is left is wanted no more, and its signal shows "go"
@@ -48,10 +49,6 @@ goes_held stage.Clearing h = absurd (cc)
 goes_held stage.Blocked h = absurd (cc)
 goes_held stage.Closing h = absurd (cc)
 goes_held other h = refl
-
-pub not_both : (w : Bool) → (w ≡ true → false ≡ true) → w ≡ false
-not_both true never = let both : false ≡ true = never refl in absurd (cc)
-not_both false never = refl
 
 -- what a route that is left was before
 left_parts : (s l x : Bool) → (s && (l || x)) ≡ true → (s ≡ true) × ((l ≡ true) ⊎ (x ≡ true))
@@ -78,42 +75,6 @@ pub given_left : (wanted : List Bool) (m n : ℕ) → (n ≡ m) ⊎ (n ≢ m) �
 given_left wanted m n (inl same) off =
     ap (wanted_at (slice_set wanted m false)) same ∙ wanted_off wanted m
 given_left wanted m n (inr differ) off = wanted_else wanted m n false differ ∙ off differ
-
-still_at : (f : ℕ → Bool) (a k n : ℕ) → wanted_at (map f (range_with_len a k)) n ≡ true → f (a + n) ≡ true
-still_at f a zero n h = absurd (cc)
-still_at f a (suc k) zero h =
-    let same : a + 0 ≡ a = omega arith in ap f same ∙ h
-still_at f a (suc k) (suc n) h =
-    let same : a + suc n ≡ (a + 1) + n = omega arith in ap f same ∙ still_at f (a + 1) k n h
-
-pub zero_more : (n : ℕ) → 0 + n ≡ n
-zero_more n = omega arith
-
--- a route that is not wanted, or that a sensor frees, is not wanted after the sensor's fall
-pub fallen_left : (t : Table) (sensor : Device) (n : ℕ) (fell : Bool)
-    → ((wanted_at t.wanted n && not (is_freed t.routes t.stages sensor n)) ≡ true → false ≡ true)
-    → (fell ≡ false → wanted_at t.wanted n ≡ false)
-    → wanted_at (if fell then still_wanted t sensor else t.wanted) n ≡ false
-fallen_left t sensor n true off none = not_both (wanted_at (still_wanted t sensor) n)
-    (λ h. off (subst (λ (i : ℕ). (wanted_at t.wanted i && not (is_freed t.routes t.stages sensor i)) ≡ true)
-    (zero_more n)
-    (still_at (λ i. wanted_at t.wanted i && not (is_freed t.routes t.stages sensor i)) 0 (length t.routes) n h)))
-fallen_left t sensor n false off none = none refl
-
-freed_of : (frees : Option Device) (sensor : Device) (held : Bool)
-    → option_map_or (λ freeing. is_same freeing sensor) frees false ≡ true → held ≡ true
-    → option_map_or (λ freeing. is_same freeing sensor && held) frees false ≡ true
-freed_of None sensor held h is = absurd (cc)
-freed_of (Some freeing) sensor held h is = and_from (is_same freeing sensor) held h is
-
-pub off_of_wanted : (w freed : Bool) → w ≡ false → (w && not freed) ≡ true → false ≡ true
-off_of_wanted true freed off h = absurd (cc)
-off_of_wanted false freed off h = h
-
-off_of_freed : (w freed : Bool) → freed ≡ true → (w && not freed) ≡ true → false ≡ true
-off_of_freed true true is h = h
-off_of_freed false true is h = h
-off_of_freed w false is h = absurd (cc)
 
 pub replied_left : (t : Table) (ok renewed : Bool) (m n : ℕ) → (n ≡ m) ⊎ (n ≢ m) → (n ≡ m → renewed ≡ false)
     → wanted_at t.wanted n ≡ false
@@ -150,54 +111,75 @@ routes_same r ok n = ap (λ (l : List Route). slice_get l n) (answer_routes r.ta
 
 record Leaves (routes : List Route) (r : Run) : Type 0 where
   holds : Holds routes r
-  sound : IsSound routes r.table
-  known : AllKnown r.table.routes r.table.sensors r.occupied
+  follows : Follows routes r
   shows : (n : ℕ) → r.left n ≡ true → r.shown n ≡ true
   off : AllLeft r.table.routes r.table.wanted r.left
 
 -- the signal of a route that is left showed "go" before the event
 shown_before : (routes : List Route) (r : Run) (event : Event) (n : ℕ) → Leaves routes r
-    → (r.left n ≡ true) ⊎ ((r.shown n && gives_back r.table.routes r.occupied event n) ≡ true) → r.shown n ≡ true
+    → (r.left n ≡ true) ⊎ ((r.shown n && gives_back r event n) ≡ true) → r.shown n ≡ true
 shown_before routes r event n leaves (inl left) = leaves.shows n left
 shown_before routes r event n leaves (inr now) =
-    (and_parts (r.shown n) (gives_back r.table.routes r.occupied event n) now).0
+    (and_parts (r.shown n) (gives_back r event n) now).0
 
 parts_of : (r : Run) (event : Event) (n : ℕ) → left_heard r event n ≡ true
     → (heard_of stopped (λ m. false) r.shown r event n ≡ true)
-    × ((r.left n ≡ true) ⊎ ((r.shown n && gives_back r.table.routes r.occupied event n) ≡ true))
+    × ((r.left n ≡ true) ⊎ ((r.shown n && gives_back r event n) ≡ true))
 parts_of r event n h = left_parts (heard_of stopped (λ m. false) r.shown r event n) (r.left n)
-    (r.shown n && gives_back r.table.routes r.occupied event n) h
+    (r.shown n && gives_back r event n) h
 
 nothing_given : (shown : Bool) (P : Type 0) → (shown && false) ≡ true → P
 nothing_given true P h = absurd (cc)
 nothing_given false P h = absurd (cc)
 
-told_left : (routes : List Route) (r : Run) (sensor : Device) (now : Occupancy) (n : ℕ) (route : Route) → Leaves routes r
-    → slice_get r.table.routes n ≡ Some route
-    → (r.left n ≡ true) ⊎ ((r.shown n && gives_back r.table.routes r.occupied (Told sensor now) n) ≡ true)
-    → wanted_at (if is_vacant now && is_occupied r.table.sensors sensor then still_wanted r.table sensor
-    else r.table.wanted) n ≡ false
-told_left routes r sensor now n route leaves is (inl left) =
-    fallen_left r.table sensor n (is_vacant now && is_occupied r.table.sensors sensor)
-    (off_of_wanted (wanted_at r.table.wanted n) (is_freed r.table.routes r.table.stages sensor n) (leaves.off n route is left))
-    (λ e. leaves.off n route is left)
-told_left routes r sensor now n route leaves is (inr given) =
-    let one : (r.shown n ≡ true)
-    × ((is_vacant now && (r.occupied sensor && is_freed_by r.table.routes n sensor)) ≡ true) =
-    and_parts (r.shown n) (is_vacant now && (r.occupied sensor && is_freed_by r.table.routes n sensor)) given in
+freeing_left : (routes : List Route) (r : Run) (sensor : Device) (now : Occupancy) (n : ℕ) (route : Route) → Leaves routes r
+    → slice_get r.table.routes n ≡ Some route → r.shown n ≡ true
+    → (is_vacant now && (r.occupied sensor && is_freed_by r.table.routes n sensor)) ≡ true
+    → wanted_at (told r.table sensor now).wanted n ≡ false
+freeing_left routes r sensor now n route leaves is shown given =
     let two : (is_vacant now ≡ true) × ((r.occupied sensor && is_freed_by r.table.routes n sensor) ≡ true) =
-    and_parts (is_vacant now) (r.occupied sensor && is_freed_by r.table.routes n sensor) one.1 in
+    and_parts (is_vacant now) (r.occupied sensor && is_freed_by r.table.routes n sensor) given in
     let three : (r.occupied sensor ≡ true) × (is_freed_by r.table.routes n sensor ≡ true) =
     and_parts (r.occupied sensor) (is_freed_by r.table.routes n sensor) two.1 in
     let fell : (is_vacant now && is_occupied r.table.sensors sensor) ≡ true =
-    and_from (is_vacant now) (is_occupied r.table.sensors sensor) two.0 ((leaves.known n sensor three.1).known three.0) in
+    and_from (is_vacant now) (is_occupied r.table.sensors sensor) two.0 ((leaves.follows.known n sensor
+    (or_left (is_freed_by r.table.routes n sensor) (is_section_of r.table.routes n sensor) three.1)).known three.0) in
     let freed : is_freed r.table.routes r.table.stages sensor n ≡ true =
     freed_of (option_and_then (λ (a : Route). a.frees) (slice_get r.table.routes n)) sensor
     (is_held (stage_at r.table.stages n)) three.1
-    (goes_held (stage_at r.table.stages n) (leaves.holds.shown n route is one.0).goes) in
+    (goes_held (stage_at r.table.stages n) (leaves.holds.shown n route is shown).goes) in
     fallen_left r.table sensor n (is_vacant now && is_occupied r.table.sensors sensor)
     (off_of_freed (wanted_at r.table.wanted n) (is_freed r.table.routes r.table.stages sensor n) freed)
     (λ e. let no : true ≡ false = sym fell ∙ e in absurd (cc))
+
+-- the train of a route passes by what is told of a sensor
+abbrev passes_now : Run → Device → Occupancy → ℕ → Bool
+passes_now r sensor now n =
+    has_passed r.table.routes (told r.table sensor now).sensors r.table.trains (word sensor now) n
+
+told_left : (routes : List Route) (r : Run) (sensor : Device) (now : Occupancy) (n : ℕ) (route : Route) → Leaves routes r
+    → slice_get r.table.routes n ≡ Some route
+    → (r.left n ≡ true) ⊎ ((r.shown n && gives_back r (Told sensor now) n) ≡ true)
+    → wanted_at (heard r.table (Told sensor now)).wanted n ≡ false
+told_left routes r sensor now n route leaves is (inl left) =
+    behind_left (told r.table sensor now) (word sensor now) n
+    (off_of_wanted (wanted_at (told r.table sensor now).wanted n) (passes_now r sensor now n)
+    (fallen_left r.table sensor n (is_vacant now && is_occupied r.table.sensors sensor)
+    (off_of_wanted (wanted_at r.table.wanted n) (is_freed r.table.routes r.table.stages sensor n) (leaves.off n route is left))
+    (λ e. leaves.off n route is left)))
+told_left routes r sensor now n route leaves is (inr given) =
+    let one : (r.shown n ≡ true) × (gives_back r (Told sensor now) n ≡ true) =
+    and_parts (r.shown n) (gives_back r (Told sensor now) n) given in
+    elim (or_cases (is_vacant now && (r.occupied sensor && is_freed_by r.table.routes n sensor))
+    (is_passed r (Told sensor now) n) one.1) [
+      | inl fell ↦ behind_left (told r.table sensor now) (word sensor now) n
+          (off_of_wanted (wanted_at (told r.table sensor now).wanted n) (passes_now r sensor now n)
+          (freeing_left routes r sensor now n route leaves is one.0 fell))
+      | inr passed ↦ behind_left (told r.table sensor now) (word sensor now) n
+          (off_of_freed (wanted_at (told r.table sensor now).wanted n) (passes_now r sensor now n)
+          (passed_is r sensor now n route leaves.follows.known leaves.follows.taken is (leaves.follows.trains n route is)
+          ∙ passed))
+    ]
 
 heard_left : (routes : List Route) (r : Run) (event : Event) → Leaves routes r
     → AllLeft (heard r.table event).routes (heard r.table event).wanted (left_heard r event)
@@ -242,8 +224,7 @@ sent_more going (Some other) w n h = h
 after_leaves : (routes : List Route) (r : Run) (event : Event) → Leaves routes r → Leaves routes (run_after r event)
 after_leaves routes r event leaves = record {
   holds = after_holds routes r event leaves.holds;
-  sound = after_sound routes r.table event leaves.sound;
-  known = after_known r.table event r.occupied leaves.known;
+  follows = after_follows routes r event leaves.follows;
   shows = λ n h. sent_more (heard_of stopped (λ m. false) r.shown r event) (step r.table event).order
       (step r.table event).table.waiting n (parts_of r event n h).0;
   off = next_left (heard r.table event) (left_heard r event) (is_some (heard r.table event).waiting)
@@ -253,8 +234,7 @@ after_leaves routes r event leaves = record {
 start_leaves : (routes : List Route) → Leaves routes (run_start routes)
 start_leaves routes = record {
   holds = start_holds routes;
-  sound = start_sound routes;
-  known = start_known routes;
+  follows = start_follows routes;
   shows = λ n h. absurd (cc);
   off = λ n route is h. absurd (cc);
 }
@@ -284,7 +264,7 @@ pub left_ends : LeftEnds
 left_ends routes events event n route is none left =
     let leaves : Leaves routes (run routes events) = run_leaves routes events in
     let resting : IsResting routes (run_after (run routes events) event).table =
-    after_resting routes (run routes events).table event leaves.sound none in
+    after_resting routes (run routes events).table event leaves.follows.sound none in
     ends_at routes (run_after (run routes events) event) n route resting
     (after_leaves routes (run routes events) event leaves)
     (ap (λ (x : List Route). slice_get x n) resting.fits.plan ∙ is) left

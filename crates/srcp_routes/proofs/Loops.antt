@@ -8,12 +8,16 @@ use Rattle.std.proofs.lemmas.List.Folds.{list_all_at}
 use Rattle.std.proofs.lemmas.List.FromFn.{get_or-range_with_len, length-map-range_with_len, length-range_with_len}
 use Rattle.std.proofs.lemmas.List.FromFn.{map-range_with_len_more}
 use Rattle.std.specs.List.{list_all, range_with_len}
-use Rattle.std.specs.Prelude.{find, if◌then◌else◌, is_some, map, slice_set}
-use Rattle.srcp_routes.specs.Plan.{Table, wanted_at}
+use Rattle.std.specs.Option.{option_and_then, option_map}
+use Rattle.std.specs.Prelude.{find, if◌then◌else◌, is_some, map, slice_get, slice_set, unwrap_or}
+use Rattle.srcp_routes.specs.Plan.{Table, train_at, train_behind, wanted_at}
 use Rattle.srcp_routes.specs.Stages.{lost_stage}
 use Rattle.srcp_routes.specs.Steps.{due, next, order_at, sent}
+use Rattle.srcp_routes.specs.Trains.{moved}
+use Rattle.srcp_routes.specs.declared.conflict.Sensed.{Sensed}
 use Rattle.srcp_routes.specs.declared.route.Route.{Route}
 use Rattle.srcp_routes.specs.declared.stage.Stage.{Stage}
+use Rattle.srcp_routes.specs.declared.train.Train.{Train}
 
 -- a test of numbers from one on: it holds of all if it holds of each
 pub all_hold : (test : ℕ → Bool) (a n : ℕ) → ((k : ℕ) → a ≤ k → k < a + n → test k ≡ true)
@@ -165,6 +169,62 @@ all_freed test wanted = freed_is test wanted (length wanted) (omega arith)
     ∙ ap (λ (l : List Bool). map (still test wanted) (range_with_len 0 (length wanted)) ++ l)
     (drop_all (length wanted) wanted (omega arith))
     ∙ append-nil (map (still test wanted) (range_with_len 0 (length wanted)))
+
+-- what is worked out of each place below a number is written
+abbrev pub written : {X : Type 0} → (ℕ → X) → ℕ → List X → List X
+written f n xs = map f (range_with_len 0 n) ++ drop n xs
+
+split_at : {X : Type 0} (xs : List X) (n : ℕ) (d : X) → n < length xs
+    → drop n xs ≡ unwrap_or (slice_get xs n) d ∷ drop (suc n) xs
+split_at [] n d lt = absurd (omega (arith, lt))
+split_at (x ∷ xs) zero d lt = refl
+split_at (x ∷ xs) (suc n) d lt = split_at xs n d (omega (arith, lt))
+
+behind_front : {X : Type 0} (front : List X) (x d : X) (rest : List X) (n : ℕ) → length front ≡ n
+    → unwrap_or (slice_get (front ++ x ∷ rest) n) d ≡ x
+behind_front [] x d rest zero long = refl
+behind_front [] x d rest (suc n) long = absurd (omega (arith, long))
+behind_front (y ∷ front) x d rest zero long = absurd (omega (arith, long))
+behind_front (y ∷ front) x d rest (suc n) long = behind_front front x d rest n (omega (arith, long))
+
+-- the next place still has what it had
+written_next : {X : Type 0} (f : ℕ → X) (xs : List X) (n : ℕ) (d : X) → n < length xs
+    → unwrap_or (slice_get (written f n xs) n) d ≡ unwrap_or (slice_get xs n) d
+written_next f xs n d lt =
+    ap (λ (l : List _). unwrap_or (slice_get (map f (range_with_len 0 n) ++ l) n) d) (split_at xs n d lt)
+    ∙ behind_front (map f (range_with_len 0 n)) (unwrap_or (slice_get xs n) d) d (drop (suc n) xs) n
+    (length-map-range_with_len f 0 n)
+
+written_more : {X : Type 0} (f : ℕ → X) (xs : List X) (n : ℕ) (d : X) → n < length xs
+    → slice_set (written f n xs) n (f n) ≡ written f (n + 1) xs
+written_more f xs n d lt =
+    ap (λ (l : List _). slice_set (map f (range_with_len 0 n) ++ l) n (f n)) (split_at xs n d lt)
+    ∙ put_at (map f (range_with_len 0 n)) (drop (suc n) xs) (unwrap_or (slice_get xs n) d) (f n) n
+    (length-map-range_with_len f 0 n)
+    ∙ sym (append_assoc (map f (range_with_len 0 n)) (f n ∷ []) (drop (suc n) xs))
+    ∙ ap (λ (l : List _). l ++ drop (suc n) xs) (sym (map-range_with_len_more f 0 n n (omega arith)))
+    ∙ ap (λ (k : ℕ). map f (range_with_len 0 (n + 1)) ++ drop k xs) (sym (add-one n))
+
+pub written_all : {X : Type 0} (f : ℕ → X) (xs : List X) (n : ℕ) → n ≡ length xs
+    → written f n xs ≡ map f (range_with_len 0 (length xs))
+written_all f xs n all = ap (λ (k : ℕ). written f k xs) all
+    ∙ ap (λ (l : List _). map f (range_with_len 0 (length xs)) ++ l) (drop_all (length xs) xs (omega arith))
+    ∙ append-nil (map f (range_with_len 0 (length xs)))
+
+-- one train more is followed
+pub follow_more : (routes : List Route) (sensors : List Sensed) (wanted : List Bool) (told : Sensed)
+    (old trains : List (Option Train)) (n : ℕ) → n < length old
+    → trains ≡ written (train_behind routes sensors wanted old told) n old
+    → slice_set trains n (train_behind routes sensors wanted trains told n)
+    ≡ written (train_behind routes sensors wanted old told) (n + 1) old
+follow_more routes sensors wanted told old trains n lt is =
+    let read : train_at trains n ≡ train_at old n =
+    ap (λ (l : List (Option Train)). train_at l n) is
+    ∙ written_next (train_behind routes sensors wanted old told) old n None lt in
+    ap (λ (x : Option Train). slice_set trains n (if wanted_at wanted n then option_and_then
+    (λ route. option_map (moved route sensors told) x) (slice_get routes n) else None)) read
+    ∙ ap (λ (l : List (Option Train)). slice_set l n (train_behind routes sensors wanted old told n)) is
+    ∙ written_more (train_behind routes sensors wanted old told) old n None lt
 
 -- one stage more is that of a session that begins
 lost_step : (routes : List Route) (stages : List Stage) (n : ℕ) (route : Route) → n < length routes

@@ -8,7 +8,7 @@ use Rattle.std.specs.Prelude.{if◌then◌else◌, is_some, slice_get, slice_set
 use Rattle.srcp_routes.specs.Plan.{Table, places, stage_at, start}
 use Rattle.srcp_routes.specs.Runs.{order_heard}
 use Rattle.srcp_routes.specs.Stages.{lost_stage, order_of, retried_stage}
-use Rattle.srcp_routes.specs.Steps.{Stepped, after, answered, due, heard, order_at, ready_at, sent, step, stage_replied}
+use Rattle.srcp_routes.specs.Steps.{Stepped, after, answered, due, given, heard, order_at, ready_at, sent, step, stage_replied}
 use Rattle.srcp_routes.specs.declared.interlocking.Event.{Event}
 use Rattle.srcp_routes.specs.declared.interlocking.Event.TheVariants.{Ask, Give, Told, Reply, Lost}
 use Rattle.srcp_routes.specs.declared.route.Order.{Order}
@@ -82,11 +82,9 @@ retried_at stages k n route o e = elim (stage_at-set stages k (retried_stage (st
 ]
 
 -- once a route is given back
-given_pends : (t : Table) (k : ℕ) (wanted again : List Bool) (last : Option Order) (x : Option ℕ) → Pends t last x
-    → Pends (record t { stages = slice_set t.stages k (retried_stage (stage_at t.stages k)); wanted = wanted; again = again })
-    last x
-given_pends t k wanted again last None pends = pends
-given_pends t k wanted again last (Some n) pends = record {
+given_pends : (t : Table) (k : ℕ) (last : Option Order) (x : Option ℕ) → Pends t last x → Pends (given t k) last x
+given_pends t k last None pends = pends
+given_pends t k last (Some n) pends = record {
   route = pends.route;
   order = pends.order;
   is = pends.is;
@@ -132,7 +130,7 @@ replied_some change known n o false = refl
 pub heard_pends : (t : Table) (last : Option Order) (event : Event) → Pends t last t.waiting
     → Pends (heard t event) (order_heard last event) (heard t event).waiting
 heard_pends t last (Ask n) pends = other_pends t (heard t (Ask n)) last t.waiting refl refl pends
-heard_pends t last (Give n) pends = given_pends t n (slice_set t.wanted n false) (slice_set t.again n false) last t.waiting pends
+heard_pends t last (Give n) pends = given_pends t n last t.waiting pends
 heard_pends t last (Told sensor on) pends = other_pends t (heard t (Told sensor on)) last t.waiting refl refl pends
 heard_pends t last (Reply ok) pends = pends_as (heard t (Reply ok)) None _ None (none_waits t ok t.waiting refl) refl
 heard_pends t last Lost pends = refl

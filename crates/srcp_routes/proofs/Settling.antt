@@ -130,7 +130,7 @@ replied_work routes t last ok n fits good pends =
     (slice_get_within t.routes n pends.route pends.is) less (λ m. replied_le_of t ok n m (cases_eq m n) less)
 
 -- no route has more to send once the next order is sent
-begins_wanted : (t : Table) (n : ℕ) (free : Bool) → may_begin t n free ≡ true → wanted_at t.wanted n ≡ true
+pub begins_wanted : (t : Table) (n : ℕ) (free : Bool) → may_begin t n free ≡ true → wanted_at t.wanted n ≡ true
 begins_wanted t n free h =
     let one : (wanted_at t.wanted n && (free && is_clear t.routes t.stages n)) ≡ true =
     (and_parts (is_idle (stage_at t.stages n)) (wanted_at t.wanted n && (free && is_clear t.routes t.stages n)) h).1 in
@@ -154,7 +154,7 @@ sent_le_some t n route good all waits is =
     (not_fresh t.stages t.waiting n (fresh (stage_at t.stages n)) refl waits all) (good n route is))
 
 abbrev sent_table : Table → ℕ → Table
-sent_table t k = record t { stages = slice_set t.stages k (ready_at t k); waiting = Some k }
+sent_table t k = (sent t (Some k)).table
 
 sent_le_here : (routes : List Route) (t : Table) (n : ℕ) (x : Option Route) → Fits routes t → AllWell t.routes t.stages
     → AllSent t.stages t.waiting → t.waiting ≡ None → slice_get t.routes n ≡ x

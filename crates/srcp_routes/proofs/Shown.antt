@@ -4,7 +4,7 @@ use Rattle.std.proofs.Common.{Option, Some, None, List, [], ◌∷◌, refl, sym
 use Rattle.std.proofs.lemmas.Bool.{and_parts, cases_eq}
 use Rattle.std.specs.Option.{option_map_or}
 use Rattle.std.specs.Prelude.{if◌then◌else◌, is_some, slice_get}
-use Rattle.srcp_routes.specs.Conflicts.{are_free, is_free, is_same}
+use Rattle.srcp_routes.specs.Conflicts.{are_free, is_free, is_same, is_vacant}
 use Rattle.srcp_routes.specs.Laws.{IsShownRightly, IsThrownAndLocked, IsToldRightly, SetIsTold, ShownAreKept, ShownStand}
 use Rattle.srcp_routes.specs.Laws.{ShowsAreFree, touched}
 use Rattle.srcp_routes.specs.Plan.{Table, is_clear, stage_at, wanted_at}
@@ -189,7 +189,7 @@ shown_by routes r event setting n holds waits sends show = record {
   is = ap (λ (x : List Route). slice_get x n) (sym (heard_fits routes r.table event holds.fits).plan) ∙ sends.is;
   has = show.has;
   go = show.go;
-  free = λ k block at. heard_free r.table event r.free holds.free block
+  free = λ k block at. heard_free is_vacant r.table event r.free holds.free block
       (all_free (heard r.table event).sensors sends.route.blocks.items k block
       (ready_free (heard r.table event) n sends.route sends.is show.now) at);
 }

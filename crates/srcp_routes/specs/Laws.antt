@@ -3,12 +3,13 @@ use Rattle.std.specs.Prelude.{◌≡◌, ◌≢◌, ◌⊎◌, ℕ, ◌≤◌, B
 use Rattle.std.specs.Prelude.{length, map, fold, is_some, slice_get}
 use Rattle.srcp_routes.specs.Conflicts.{are_free, is_same}
 use Rattle.srcp_routes.specs.Plan.{Table, conflict_at, stage_at, wanted_at}
-use Rattle.srcp_routes.specs.Runs.{Run, run, run_after}
+use Rattle.srcp_routes.specs.Runs.{Run, is_freed_by, run, run_after}
 use Rattle.srcp_routes.specs.Stages.{is_held, is_idle, show_setting, turnout_at}
 use Rattle.srcp_routes.specs.Steps.{after, course, step}
 use Rattle.srcp_routes.specs.declared.interlocking.Event.{Event}
-use Rattle.srcp_routes.specs.declared.interlocking.Event.TheVariants.{Reply}
+use Rattle.srcp_routes.specs.declared.interlocking.Event.TheVariants.{Reply, Told}
 use Rattle.srcp_routes.specs.declared.route.Device.{Device}
+use Rattle.srcp_routes.specs.declared.route.Occupancy.{Occupancy}
 use Rattle.srcp_routes.specs.declared.route.Order.{Order}
 use Rattle.srcp_routes.specs.declared.route.Order.TheVariants as order
 use Rattle.srcp_routes.specs.declared.route.Route.{Route}
@@ -168,6 +169,26 @@ LeftEnds = (routes : List Route) (events : List Event) (event : Event) (n : ℕ)
     → slice_get routes n ≡ Some route → (run_after (run routes events) event).table.waiting ≡ None
     → (run_after (run routes events) event).left n ≡ true
     → is_unstopped (stage_at (run_after (run routes events) event).table.stages n) ≡ true
+
+-- an order ends a route: a turnout is unlocked, or the route is told not to be set
+abbrev pub ends : Order → Bool
+ends (order.Unlock device) = true
+ends (order.Report number false) = true
+ends other = false
+
+-- as long as a route has let a train go, and neither was given back nor had a refused order since, no order ends it: a
+-- train gives it back by the fall of the sensor that frees it, or as it has passed each section but the last
+abbrev pub FreedBehind : Type 0
+FreedBehind = (routes : List Route) (events : List Event) (n : ℕ) (last : Order)
+    → (run routes events).table.waiting ≡ Some n → (run routes events).order ≡ Some last
+    → (run routes events).let_go n ≡ true → ends last ≡ false
+
+-- a route that has let a train go, which has entered no section, is not given back by what one sensor says, however
+-- often, if that sensor does not free the route
+abbrev pub OneSensorFreesNone : Type 0
+OneSensorFreesNone = (routes : List Route) (events : List Event) (sensor : Device) (words : List Occupancy) (n : ℕ)
+    → (run routes events).let_go n ≡ true → (run routes events).head n ≡ 0 → is_freed_by routes n sensor ≡ false
+    → (fold run_after (run routes events) (map (λ now. Told sensor now) words)).let_go n ≡ true
 
 -- a route holds no lock, and its signal was stopped if it was shown
 pub record IsEnded (r : Run) (n : ℕ) : Type 0 where

@@ -4,3 +4,4 @@ pub mod Plan
 pub mod Runs
 pub mod Stages
 pub mod Steps
+pub mod Trains

@@ -1,22 +1,26 @@
--- The table of all routes: their stages, which are wanted, which are asked for again before they ended, what is known
--- of sensors, and whose order waits.
-use Rattle.std.specs.Prelude.{ℕ, Bool, false, not, ◌&&◌, ◌||◌, Option, None, List, map}
+-- The table of all routes: their stages, which are wanted, which are asked for again before they ended, their trains,
+-- what is known of sensors, and whose order waits.
+use Rattle.std.specs.Prelude.{ℕ, Bool, false, not, ◌&&◌, ◌||◌, Option, Some, None, List, map, if◌then◌else◌}
 use Rattle.std.specs.Prelude.{length, replicate, option_and_then, slice_get, unwrap_or}
 use Rattle.std.specs.List.{list_all, range_with_len}
-use Rattle.std.specs.Option.{option_map_or}
+use Rattle.std.specs.Option.{option_map, option_map_or}
 use Rattle.srcp_routes.specs.Conflicts.{conflicts, is_same, sensors_of}
 use Rattle.srcp_routes.specs.Stages.{is_held, is_idle, lost_stage}
+use Rattle.srcp_routes.specs.Trains.{at_start, is_through, lets_go, moved}
 use Rattle.srcp_routes.specs.declared.conflict.Sensed.{Sensed}
 use Rattle.srcp_routes.specs.declared.route.Device.{Device}
 use Rattle.srcp_routes.specs.declared.route.Route.{Route}
 use Rattle.srcp_routes.specs.declared.stage.Stage.{Stage}
 use Rattle.srcp_routes.specs.declared.stage.Stage.TheVariants as stage
+use Rattle.srcp_routes.specs.declared.train.Train.{Train}
 
 pub record Table : Type 0 where
   pub routes : List Route
   pub stages : List Stage
   pub wanted : List Bool
   pub again : List Bool
+  -- the train that a route has let go, until the route is given back
+  pub trains : List (Option Train)
   pub sensors : List Sensed
   pub waiting : Option ℕ
 
@@ -27,6 +31,7 @@ start routes = record {
   stages = map lost_stage routes;
   wanted = replicate (length routes) false;
   again = replicate (length routes) false;
+  trains = replicate (length routes) None;
   sensors = sensors_of routes;
   waiting = None;
 }
@@ -46,6 +51,9 @@ stage_at stages n = unwrap_or (slice_get stages n) stage.Idle
 abbrev pub wanted_at : List Bool → ℕ → Bool
 wanted_at wanted n = unwrap_or (slice_get wanted n) false
 
+abbrev pub train_at : List (Option Train) → ℕ → Option Train
+train_at trains n = unwrap_or (slice_get trains n) None
+
 -- a route is not in the way of another: they do not conflict, or it is idle
 abbrev pub lets : List Route → List Stage → ℕ → ℕ → Bool
 lets routes stages n m = not (conflict_at routes n m) || is_idle (stage_at stages m)
@@ -64,3 +72,32 @@ is_freed routes stages sensor n =
 abbrev pub still_wanted : Table → Device → List Bool
 still_wanted t sensor =
     map (λ n. wanted_at t.wanted n && not (is_freed t.routes t.stages sensor n)) (places t.routes)
+
+-- the train of a route as it sends the order of a stage
+abbrev pub train_sent : List Route → List (Option Train) → Stage → ℕ → Option Train
+train_sent routes trains stage n =
+    if option_map_or (λ route. lets_go route stage) (slice_get routes n) false then Some at_start else train_at trains n
+
+-- the train of a route once something was told of a sensor
+abbrev pub train_told : List Route → List Sensed → List (Option Train) → Sensed → ℕ → Option Train
+train_told routes sensors trains told n =
+    option_and_then (λ route. option_map (moved route sensors told) (train_at trains n)) (slice_get routes n)
+
+-- then that train has passed each section but the last
+abbrev pub has_passed : List Route → List Sensed → List (Option Train) → Sensed → ℕ → Bool
+has_passed routes sensors trains told n = option_map_or
+    (λ route. option_map_or (is_through route) (train_told routes sensors trains told n) false)
+    (slice_get routes n) false
+
+-- which routes are still wanted then: each that was, and whose train has not passed
+abbrev pub wanted_behind : Table → Sensed → List Bool
+wanted_behind t told =
+    map (λ n. wanted_at t.wanted n && not (has_passed t.routes t.sensors t.trains told n)) (places t.routes)
+
+-- the train of a route then, if the route is wanted
+abbrev pub train_behind : List Route → List Sensed → List Bool → List (Option Train) → Sensed → ℕ → Option Train
+train_behind routes sensors wanted trains told n =
+    if wanted_at wanted n then train_told routes sensors trains told n else None
+
+abbrev pub trains_behind : Table → List Bool → Sensed → List (Option Train)
+trains_behind t wanted told = map (train_behind t.routes t.sensors wanted t.trains told) (places t.routes)

@@ -1,6 +1,6 @@
 -- What events, orders and their replies alone say of the layout, without a look at stages.
-use Rattle.std.specs.Prelude.{ℕ, ◌==◌, Bool, true, false, not, ◌&&◌, ◌||◌, Option, Some, None, List, fold}
-use Rattle.std.specs.Prelude.{if◌then◌else◌, is_some, option_and_then, slice_get}
+use Rattle.std.specs.Prelude.{ℕ, ◌+◌, ◌-◌, ◌==◌, Bool, true, false, not, ◌&&◌, ◌||◌, Option, Some, None, List, fold}
+use Rattle.std.specs.Prelude.{if◌then◌else◌, is_some, length, nat_lt, option_and_then, slice_get}
 use Rattle.std.specs.Option.{option_map_or, option_or}
 use Rattle.srcp_routes.specs.Conflicts.{is_same, is_taken, is_vacant}
 use Rattle.srcp_routes.specs.Plan.{Table, start}
@@ -8,6 +8,7 @@ use Rattle.srcp_routes.specs.Steps.{Stepped, step}
 use Rattle.srcp_routes.specs.declared.interlocking.Event.{Event}
 use Rattle.srcp_routes.specs.declared.interlocking.Event.TheVariants.{Ask, Give, Told, Reply, Lost}
 use Rattle.srcp_routes.specs.declared.route.Device.{Device}
+use Rattle.srcp_routes.specs.declared.route.Occupancy.{Occupancy}
 use Rattle.srcp_routes.specs.declared.route.Order.{Order}
 use Rattle.srcp_routes.specs.declared.route.Order.TheVariants as order
 use Rattle.srcp_routes.specs.declared.route.Route.{Route}
@@ -27,9 +28,10 @@ Signals = ℕ → Bool
 
 -- a run so far: its table, the last order if its reply has not come, the locks, and what was thrown under them; which
 -- signals this session has shown and not stopped, which signals may show "go", and which do since that was accepted;
--- which sensors are free or occupied; which routes were given back since this session has shown their signals, and
--- before these are stopped; which routes are asked for, and which were given back or refused and not asked for since;
--- which routes this session has told to be set
+-- which sensors are free or occupied; which routes have let a train go and were not given back since, how many sections
+-- that train has entered, and how many it has passed; which routes were given back since this session has shown their
+-- signals, and before these are stopped; which routes are asked for, and which were given back or refused and not asked
+-- for since; which routes this session has told to be set
 pub record Run : Type 0 where
   pub table : Table
   pub order : Option Order
@@ -40,6 +42,9 @@ pub record Run : Type 0 where
   pub lit : Signals
   pub free : Device → Bool
   pub occupied : Device → Bool
+  pub let_go : Signals
+  pub head : ℕ → ℕ
+  pub tail : ℕ → ℕ
   pub left : Signals
   pub asks : Signals
   pub given : Signals
@@ -97,47 +102,96 @@ heard_of change lost known r (Reply true) =
 heard_of change lost known r Lost = lost
 heard_of change lost known r other = known
 
--- the sensors that are free once an event came
-abbrev pub free_heard : (Device → Bool) → Event → Device → Bool
-free_heard free (Told sensor now) x = if is_same x sensor then is_vacant now else free x
-free_heard free other x = free x
-
--- the sensors that are occupied once an event came
-abbrev pub occupied_heard : (Device → Bool) → Event → Device → Bool
-occupied_heard occupied (Told sensor now) x = if is_same x sensor then is_taken now else occupied x
-occupied_heard occupied other x = occupied x
+-- the sensors of which this is known once an event came
+abbrev pub sensed_heard : (Occupancy → Bool) → (Device → Bool) → Event → Device → Bool
+sensed_heard of known (Told sensor now) x = if is_same x sensor then of now else known x
+sensed_heard of known other x = known x
 
 -- a route is one that the fall of this sensor gives back
 abbrev pub is_freed_by : List Route → ℕ → Device → Bool
 is_freed_by routes n sensor = option_map_or (λ freeing. is_same freeing sensor)
     (option_and_then (λ (route : Route). route.frees) (slice_get routes n)) false
 
--- an event gives a route back: somebody does, or the sensor that frees the route falls from 1 to 0
-abbrev pub gives_back : List Route → (Device → Bool) → Event → ℕ → Bool
-gives_back routes occupied (Give m) n = n == m
-gives_back routes occupied (Told sensor now) n = is_vacant now && (occupied sensor && is_freed_by routes n sensor)
-gives_back routes occupied other n = false
+-- the section of a route at a place
+abbrev pub section_of : List Route → ℕ → ℕ → Option Device
+section_of routes n place =
+    option_and_then (λ (route : Route). slice_get route.sections.items place) (slice_get routes n)
+
+-- it is this sensor
+abbrev pub lies_at : List Route → ℕ → ℕ → Device → Bool
+lies_at routes n place sensor = option_map_or (λ section. is_same section sensor) (section_of routes n place) false
+
+-- the train of a route enters a section as that is told to be occupied, and it has entered each section before
+abbrev pub head_heard : Run → Event → ℕ → ℕ
+head_heard r (Told sensor now) n =
+    if is_taken now && lies_at r.table.routes n (r.head n) sensor then r.head n + 1 else r.head n
+head_heard r other n = r.head n
+
+-- it has passed a section as that is told to be free, while it has entered the next section, which is occupied, and it
+-- has passed each section before
+abbrev pub tail_heard : Run → Event → ℕ → ℕ
+tail_heard r (Told sensor now) n =
+    if is_vacant now && (lies_at r.table.routes n (r.tail n) sensor && (nat_lt (r.tail n + 1) (r.head n)
+    && option_map_or (sensed_heard is_taken r.occupied (Told sensor now))
+    (section_of r.table.routes n (r.tail n + 1)) false))
+    then r.tail n + 1 else r.tail n
+tail_heard r other n = r.tail n
+
+-- a number of sections that is that of all but the last of a route
+abbrev pub are_all_passed : List Route → ℕ → ℕ → Bool
+are_all_passed routes n passed = option_map_or
+    (λ (route : Route). nat_lt 0 passed && (passed == length route.sections.items - 1)) (slice_get routes n) false
+
+-- a sensor is told, and then the train that a route has let go has passed each section of its way but the last
+abbrev pub is_passed : Run → Event → ℕ → Bool
+is_passed r event n = r.let_go n && are_all_passed r.table.routes n (tail_heard r event n)
+
+-- an event gives a route back: somebody does, the sensor that frees the route falls from 1 to 0, or its train passed
+abbrev pub gives_back : Run → Event → ℕ → Bool
+gives_back r (Give m) n = n == m
+gives_back r (Told sensor now) n =
+    (is_vacant now && (r.occupied sensor && is_freed_by r.table.routes n sensor)) || is_passed r (Told sensor now) n
+gives_back r other n = false
+
+-- the routes that have let a train go and were not given back since, once an event came: a refused order gives a route
+-- back, and so does a session that begins
+abbrev pub let_go_heard : Run → Event → Signals
+let_go_heard r (Reply false) n = not (option_map_or (λ m. n == m) r.table.waiting false) && r.let_go n
+let_go_heard r Lost n = false
+let_go_heard r event n = not (gives_back r event n) && r.let_go n
+
+-- an order lets a train go: it shows "go", or tells that a route without a signal is set
+abbrev pub is_go : List Route → ℕ → Option Order → Bool
+is_go routes n (Some (order.Show setting)) = true
+is_go routes n (Some (order.Report number true)) = not (has_signal routes n)
+is_go routes n other = false
+
+-- an order of a route is sent that lets a train go
+abbrev pub goes_now : List Route → Option Order → Option ℕ → ℕ → Bool
+goes_now routes sent waiting n = is_go routes n sent && option_map_or (λ m. n == m) waiting false
 
 -- the routes that were given back while their signals show "go", once an event came: until those are stopped
 abbrev pub left_heard : Run → Event → Signals
 left_heard r event n = heard_of stopped (λ m. false) r.shown r event n
-    && (r.left n || (r.shown n && gives_back r.table.routes r.occupied event n))
+    && (r.left n || (r.shown n && gives_back r event n))
 
 -- the routes that are asked for once an event came: no longer if somebody gives the route back, the sensor that frees
--- the route says 0, an order of the route is refused, or a session begins
+-- the route says 0, its train has passed, an order of the route is refused, or a session begins
 abbrev pub asks_heard : Run → Event → Signals
 asks_heard r (Ask m) n = (n == m) || r.asks n
 asks_heard r (Give m) n = not (n == m) && r.asks n
-asks_heard r (Told sensor now) n = not (is_vacant now && is_freed_by r.table.routes n sensor) && r.asks n
+asks_heard r (Told sensor now) n =
+    not (is_passed r (Told sensor now) n) && (not (is_vacant now && is_freed_by r.table.routes n sensor) && r.asks n)
 asks_heard r (Reply true) n = r.asks n
 asks_heard r (Reply false) n = not (option_map_or (λ m. n == m) r.table.waiting false) && r.asks n
 asks_heard r Lost n = false
 
--- the routes that were given back and not asked for since, once an event came: a refused order of a route gives the
--- route back, and so does a session that begins
+-- the routes that were given back and not asked for since, once an event came: a train that the route has let go gives
+-- it back by its passing, or by the fall of the sensor that frees the route; so do a refused order, and a new session
 abbrev pub given_heard : Run → Event → Signals
 given_heard r (Ask m) n = not (n == m) && r.given n
 given_heard r (Give m) n = (n == m) || r.given n
+given_heard r (Told sensor now) n = (r.let_go n && gives_back r (Told sensor now) n) || r.given n
 given_heard r (Reply false) n = option_map_or (λ m. n == m) r.table.waiting false || r.given n
 given_heard r Lost n = true
 given_heard r other n = r.given n
@@ -177,8 +231,11 @@ goes_on r event stepped = record {
   may_go = signals_sent (heard_of stopped (has_signal r.table.routes) r.may_go r event) stepped.order
       stepped.table.waiting;
   lit = heard_of lit (λ m. false) r.lit r event;
-  free = free_heard r.free event;
-  occupied = occupied_heard r.occupied event;
+  free = sensed_heard is_vacant r.free event;
+  occupied = sensed_heard is_taken r.occupied event;
+  let_go = λ n. goes_now r.table.routes stepped.order stepped.table.waiting n || let_go_heard r event n;
+  head = λ n. if goes_now r.table.routes stepped.order stepped.table.waiting n then 0 else head_heard r event n;
+  tail = λ n. if goes_now r.table.routes stepped.order stepped.table.waiting n then 0 else tail_heard r event n;
   left = left_heard r event;
   asks = asks_heard r event;
   given = given_heard r event;
@@ -200,6 +257,9 @@ run_start routes = record {
   lit = λ m. false;
   free = λ x. false;
   occupied = λ x. false;
+  let_go = λ m. false;
+  head = λ m. 0;
+  tail = λ m. 0;
   left = λ m. false;
   asks = λ m. false;
   given = λ m. true;

@@ -3,8 +3,10 @@ use Rattle.std.specs.Prelude.{ℕ, Bool, true, false, ◌&&◌, ◌||◌, Option
 use Rattle.std.specs.Prelude.{if◌then◌else◌, slice_get, slice_set, option_and_then, is_some}
 use Rattle.std.specs.Option.{option_map_or}
 use Rattle.srcp_routes.specs.Conflicts.{are_free, is_occupied, is_vacant, told_sensor}
-use Rattle.srcp_routes.specs.Plan.{Table, start, places, stage_at, wanted_at, is_clear, still_wanted}
+use Rattle.srcp_routes.specs.Plan.{Table, start, places, stage_at, train_sent, trains_behind, wanted_at, wanted_behind}
+use Rattle.srcp_routes.specs.Plan.{is_clear, still_wanted}
 use Rattle.srcp_routes.specs.Stages.{after_reply, is_idle, order_of, ready_stage, retried_stage}
+use Rattle.srcp_routes.specs.declared.conflict.Sensed.{Sensed}
 use Rattle.srcp_routes.specs.declared.interlocking.Event.{Event}
 use Rattle.srcp_routes.specs.declared.interlocking.Event.TheVariants.{Ask, Give, Told, Reply, Lost}
 use Rattle.srcp_routes.specs.declared.route.Device.{Device}
@@ -43,7 +45,11 @@ due t = find (λ n. is_some (order_at t n)) (places t.routes)
 abbrev pub sent : Table → Option ℕ → Stepped
 sent t None = record { table = t; order = None }
 sent t (Some n) = record {
-  table = record t { stages = slice_set t.stages n (ready_at t n); waiting = Some n };
+  table = record t {
+    stages = slice_set t.stages n (ready_at t n);
+    trains = slice_set t.trains n (train_sent t.routes t.trains (ready_at t n) n);
+    waiting = Some n;
+  };
   order = order_at t n;
 }
 
@@ -67,6 +73,7 @@ given t n = record t {
   stages = slice_set t.stages n (retried_stage (stage_at t.stages n));
   wanted = slice_set t.wanted n false;
   again = slice_set t.again n false;
+  trains = slice_set t.trains n None;
 }
 
 -- something is told of a sensor; its fall from 1 to 0 gives back each held route that it frees
@@ -74,6 +81,13 @@ abbrev pub told : Table → Device → Occupancy → Table
 told t sensor now = record t {
   sensors = map (told_sensor sensor now) t.sensors;
   wanted = if is_vacant now && is_occupied t.sensors sensor then still_wanted t sensor else t.wanted;
+}
+
+-- then the trains have come as far as that says, and each that has passed gives its route back
+abbrev pub followed : Table → Sensed → Table
+followed t told = record t {
+  wanted = wanted_behind t told;
+  trains = trains_behind t (wanted_behind t told) told;
 }
 
 -- the stage of a route after the reply to its order
@@ -100,6 +114,7 @@ answered t ok n = record t {
   stages = slice_set t.stages n (stage_replied t n ok);
   wanted = wanted_after t ok n;
   again = again_after t ok n;
+  trains = if ok then t.trains else slice_set t.trains n None;
   waiting = None;
 }
 
@@ -108,7 +123,7 @@ answered t ok n = record t {
 abbrev pub heard : Table → Event → Table
 heard t (Ask n) = asked t n
 heard t (Give n) = given t n
-heard t (Told sensor now) = told t sensor now
+heard t (Told sensor now) = followed (told t sensor now) (record { sensor = sensor; occupancy = now })
 heard t (Reply ok) = option_map_or (answered t ok) t.waiting t
 heard t Lost = record (start t.routes) { sensors = t.sensors }
 

@@ -171,17 +171,25 @@ fn unknown(sensor: Device) -> Sensed
     }
 }
 
+/// Adds sensors of which nothing was told.
+fn add_all(sensors: &mut Vec<Sensed>, devices: &[Device]) -> Result<(), AllocError>
+    ensures { OnOk result (sensors.new.items ≡ sensors.old.items ++ map unknown devices.now) }
+{
+    for device in devices {
+        sensors.push(unknown(*device))?;
+    }
+    Ok(())
+}
+
 /// Adds the sensors of a route.
 fn add_sensors(sensors: &mut Vec<Sensed>, route: &Route) -> Result<(), AllocError>
     ensures { OnOk result (sensors.new.items ≡ sensors.old.items ++ route_sensors route.now) }
 {
-    for block in &route.blocks {
-        sensors.push(unknown(*block))?;
-    }
+    add_all(sensors, &route.blocks)?;
     if let Some(sensor) = route.frees {
         sensors.push(unknown(sensor))?;
     }
-    Ok(())
+    add_all(sensors, &route.sections)
 }
 
 /// Returns the sensors of all routes.

@@ -2,14 +2,14 @@
 
 ghost use Rattle.std.specs.Prelude.{◌≡◌, ◌<◌, IfOk, IfSome, length};
 ghost use Rattle.srcp_routes.specs.Plan.{start};
-ghost use Rattle.srcp_routes.specs.Steps.{due, given, heard, is_renewed, may_begin, next, order_at, ready_at};
-ghost use Rattle.srcp_routes.specs.Steps.{stage_replied, step};
-ghost use Rattle.srcp_routes.specs.Steps.{told};
+ghost use Rattle.srcp_routes.specs.Steps.{due, followed, given, heard, is_renewed, may_begin, next, order_at, ready_at};
+ghost use Rattle.srcp_routes.specs.Steps.{stage_replied, step, told};
 ghost use Rattle.srcp_routes.specs.declared.interlocking.Event.TheVariants.{Ask, Lost, Reply};
 
 use crate::conflict::{Sensed, are_free, is_occupied, sense, sensors_of};
 use crate::stage::{after_reply, lost, order_of, ready, retried};
-use crate::table::{give_freed, is_clear, lost_stages, stage_at, wanted_at};
+use crate::table::{follow, give_freed, is_clear, lost_stages, stage_at, train_sent, wanted_at};
+use crate::train::Train;
 use crate::{Device, Occupancy, Order, Route, Stage};
 use std::alloc::{AllocError, Global};
 use std::marker::Model;
@@ -52,6 +52,7 @@ pub struct Interlocking {
     stages: Vec<Stage>,
     wanted: Vec<bool>,
     again: Vec<bool>,
+    trains: Vec<Option<Train>>,
     sensors: Vec<Sensed>,
     waiting: Option<usize>,
 }
@@ -68,13 +69,14 @@ impl Model for Interlocking {
       stages = t.stages.items;
       wanted = t.wanted.items;
       again = t.again.items;
+      trains = t.trains.items;
       sensors = t.sensors.items;
       waiting = t.waiting;
     } };
 
     ghost invariant = { λ t.
         (length t.stages.items ≡ length t.routes.items) × (length t.wanted.items ≡ length t.routes.items)
-        × (length t.again.items ≡ length t.routes.items) };
+        × (length t.again.items ≡ length t.routes.items) × (length t.trains.items ≡ length t.routes.items) };
 }
 
 impl Interlocking {
@@ -89,12 +91,14 @@ impl Interlocking {
         let stages = lost_stages(alloc, &routes)?;
         let wanted = vec![in alloc; false; routes.len()]?;
         let again = vec![in alloc; false; routes.len()]?;
+        let trains = vec![in alloc; None; routes.len()]?;
         let sensors = sensors_of(alloc, &routes)?;
         Ok(Interlocking {
             routes,
             stages,
             wanted,
             again,
+            trains,
             sensors,
             waiting: None,
         })
@@ -162,7 +166,9 @@ impl Interlocking {
         let n = self.due()?;
         let order = self.order_at(n);
         let stage = self.ready_at(n);
+        let train = train_sent(&self.routes, &self.trains, stage, n);
         self.stages[n] = stage;
+        self.trains[n] = train;
         self.waiting = Some(n);
         order
     }
@@ -189,6 +195,7 @@ impl Interlocking {
             self.stages[n] = stage;
             self.wanted[n] = false;
             self.again[n] = false;
+            self.trains[n] = None;
         }
     }
 
@@ -200,6 +207,14 @@ impl Interlocking {
             give_freed(&self.routes, &self.stages, sensor, &mut self.wanted);
         }
         sense(&mut self.sensors, sensor, occupancy);
+    }
+
+    /// Follows the trains, and gives back each route whose train has passed.
+    fn follow(&mut self, told: Sensed)
+        ensures { self.new ≡ followed self.old told }
+    {
+        let (routes, sensors) = (&self.routes, &self.sensors);
+        follow(routes, sensors, told, &mut self.wanted, &mut self.trains);
     }
 
     /// Returns the stage of the route at a place after the reply to the route's order.
@@ -236,6 +251,7 @@ impl Interlocking {
             } else if !ok {
                 self.wanted[n] = false;
                 self.again[n] = false;
+                self.trains[n] = None;
             }
         }
         self.waiting = None;
@@ -251,6 +267,7 @@ impl Interlocking {
         }
         self.wanted.fill(false);
         self.again.fill(false);
+        self.trains.fill(None);
         self.waiting = None;
     }
 
@@ -261,7 +278,10 @@ impl Interlocking {
         match event {
             Event::Ask(n) => self.ask(n),
             Event::Give(n) => self.give(n),
-            Event::Told(sensor, occupancy) => self.tell(sensor, occupancy),
+            Event::Told(sensor, occupancy) => {
+                self.tell(sensor, occupancy);
+                self.follow(Sensed { sensor, occupancy });
+            }
             Event::Reply(ok) => self.reply(ok),
             Event::Lost => self.lose(),
         }

@@ -1,8 +1,8 @@
 //! Laws of every list of events. Each function does nothing: its `ensures` is the law.
 
-ghost use Rattle.srcp_routes.specs.Laws.{AskedAreServed, CrossApart, GivenEnd, HeldStandAlone, LeftEnds, RepliesSettle};
-ghost use Rattle.srcp_routes.specs.Laws.{SetIsTold, ShownAreKept, ShownStand, ShowsAreFree, ThrowsAreLocked};
-ghost use Rattle.srcp_routes.specs.Laws.{WantedAreServed};
+ghost use Rattle.srcp_routes.specs.Laws.{AskedAreServed, CrossApart, FreedBehind, GivenEnd, HeldStandAlone, LeftEnds};
+ghost use Rattle.srcp_routes.specs.Laws.{OneSensorFreesNone, RepliesSettle, SetIsTold, ShownAreKept, ShownStand};
+ghost use Rattle.srcp_routes.specs.Laws.{ShowsAreFree, ThrowsAreLocked, WantedAreServed};
 
 /// States for any plan and any list of events: while a route is held, each other route that conflicts is idle. No two
 /// routes that conflict are held at once.
@@ -50,23 +50,41 @@ pub fn wanted_are_served()
 {}
 
 /// States the same of each route that is asked for by events alone. A route is asked for from an ask on. That ends if
-/// somebody gives the route back, or the sensor that frees the route says 0. It ends too if an order of the route is
-/// refused, or a command session begins.
+/// somebody gives the route back, the sensor that frees the route says 0, or the train of the route has passed. It ends
+/// too if an order of the route is refused, or a command session begins.
 pub fn asked_are_served()
     ensures { AskedAreServed }
 {}
 
-/// States for any plan and any list of events what is true of a route that was given back. Somebody gave the route
-/// back, or the sensor that frees the route fell from 1 to 0, while the route's signal showed "go". Once no order waits
-/// for a reply, the signal is stopped, or could not be stopped. It does not matter what was asked for since.
+/// States for any plan and any list of events what is true of a route that was given back while its signal showed
+/// "go". Somebody gave the route back, the sensor that frees the route fell from 1 to 0, or the route's train has
+/// passed. Once no order waits for a reply, the signal is stopped, or could not be stopped. It does not matter what was
+/// asked for since.
 pub fn left_ends()
     ensures { LeftEnds }
 {}
 
+/// States for any plan and any list of events what a route does that has let a train go. The route keeps its locks,
+/// and is not told to be unset. This ends if somebody gives the route back, an order of the route is refused, or a
+/// command session begins. A train ends this as the sensor that frees the route falls from 1 to 0. A train ends this
+/// too once it has passed each section of the route but the last, in their order. A section is passed as the section
+/// is told to be free, if the train had entered the next one, which is still occupied.
+pub fn freed_behind()
+    ensures { FreedBehind }
+{}
+
+/// States for any plan and any list of events that one sensor alone gives no route back, if that sensor does not free
+/// the route. Let a route have let a train go that has entered no section yet. Whatever is told of one sensor then, and
+/// however often, the route is not given back by that.
+pub fn one_sensor_frees_none()
+    ensures { OneSensorFreesNone }
+{}
+
 /// States for any plan and any list of events what is true of a route that was given back and not asked for since. A
-/// refused order of the route gives the route back too, and so does the begin of a command session. Once no order waits
-/// for a reply, the route holds no lock, and the signal of the route was stopped if it was shown. Or the signal could
-/// not be stopped.
+/// refused order of the route gives the route back too, and so does the begin of a command session. So does the train
+/// that the route has let go, once it has passed, or as the sensor falls that frees the route. Once no order waits for
+/// a reply, the route holds no lock, and the signal of the route was stopped if it was shown. Or the signal could not
+/// be stopped.
 pub fn given_end()
     ensures { GivenEnd }
 {}

@@ -11,6 +11,7 @@ pub mod laws;
 mod route;
 mod stage;
 mod table;
+mod train;
 
 pub use conflict::{has_accessory, has_block, has_piece, is_same, uses};
 pub use interlocking::{Event, Interlocking};

@@ -78,7 +78,7 @@ impl Occupancy {
 /// Describes a route.
 ///
 /// ```
-/// let route = Route { number: 1, turnouts, blocks, signal: None, frees: None, pieces };
+/// let route = Route { number: 1, turnouts, blocks, signal: None, frees: None, sections, pieces };
 /// routes.push(route)?;
 /// let mut interlocking = Interlocking::new(alloc, routes)?;
 /// ```
@@ -94,6 +94,9 @@ pub struct Route {
     pub signal: Option<Signal>,
     /// The sensor that gives the route back as the sensor falls from 1 to 0, if any.
     pub frees: Option<Device>,
+    /// The sensors along the route's way, in the order in which a train comes to them. A train that has passed each of
+    /// them but the last gives the route back.
+    pub sections: Vec<Device>,
     /// The pieces of track of the route's way, by their numbers in a drawing.
     pub pieces: Vec<usize>,
 }

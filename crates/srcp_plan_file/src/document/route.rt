@@ -3,9 +3,9 @@
 ghost use Rattle.std.specs.Prelude.{◌≡◌, [], map, option_map};
 ghost use Rattle.toml.specs.View.{table_view, view as data_of};
 ghost use Rattle.srcp_layout_file.specs.Gives.{Gives, Shows};
-ghost use Rattle.srcp_plan_file.specs.Document.{array_if, blocks_in, frees_at, new_signal, new_turnout, pieces_at};
-ghost use Rattle.srcp_plan_file.specs.Document.{route_numbered, sensor_in, signal_at, signal_in};
-ghost use Rattle.srcp_plan_file.specs.Document.{turnout_in, turnouts_in};
+ghost use Rattle.srcp_plan_file.specs.Document.{array_if, frees_at, new_signal, new_turnout, pieces_at};
+ghost use Rattle.srcp_plan_file.specs.Document.{route_numbered, sensor_in, sensors_at, sensors_in, signal_at};
+ghost use Rattle.srcp_plan_file.specs.Document.{signal_in, turnout_in, turnouts_in};
 ghost use Rattle.srcp_plan_file.specs.Plan.{drawn, planned_route};
 
 use crate::device::{sensor_of, signal_of, turnout_of};
@@ -30,10 +30,10 @@ pub(super) fn route_numbered(
 {
     let values = array_if(number, members, Field::Turnouts)?;
     let turnouts = turnouts_in(alloc, own, number, values)?;
-    let values = array_if(number, members, Field::Blocks)?;
-    let blocks = blocks_in(alloc, own, number, values)?;
+    let blocks = sensors_at(alloc, own, number, Field::Blocks, members)?;
     let signal = signal_at(own, number, &turnouts, members)?;
     let frees = frees_at(own, number, members)?;
+    let sections = sensors_at(alloc, own, number, Field::Sections, members)?;
     let pieces = pieces_at(alloc, number, tracks, &turnouts, members)?;
     Ok(Route {
         number,
@@ -41,6 +41,7 @@ pub(super) fn route_numbered(
         blocks,
         signal,
         frees,
+        sections,
         pieces,
     })
 }
@@ -102,22 +103,37 @@ fn sensor_in(own: u8, number: u32, field: Field, value: &Value) -> Result<Device
     sensor_of(own, array_in(value, beyond)?, beyond)
 }
 
-/// Reads blocks from left to right.
-fn blocks_in(
+/// Reads the sensors at a key, or none if there is no such key.
+fn sensors_at(
     alloc: Global,
     own: u8,
     number: u32,
+    field: Field,
+    members: &Table,
+) -> Result<Vec<Device>, PlanFault>
+    ensures { Gives (λ sensors. sensors.items) PlanFault.Memory result
+        (sensors_at own number field (table_view members.now)) }
+{
+    sensors_in(alloc, own, number, field, array_if(number, members, field)?)
+}
+
+/// Reads sensors from left to right.
+fn sensors_in(
+    alloc: Global,
+    own: u8,
+    number: u32,
+    field: Field,
     values: &[Value],
 ) -> Result<Vec<Device>, PlanFault>
-    ensures { Gives (λ blocks. blocks.items) PlanFault.Memory result
-        (blocks_in own number [] (map data_of values.now)) }
+    ensures { Gives (λ sensors. sensors.items) PlanFault.Memory result
+        (sensors_in own number field [] (map data_of values.now)) }
 {
-    let mut blocks = Vec::new(alloc);
+    let mut sensors = Vec::new(alloc);
     for value in values {
-        let block = sensor_in(own, number, Field::Blocks, value)?;
-        blocks.push(block)?;
+        let sensor = sensor_in(own, number, field, value)?;
+        sensors.push(sensor)?;
     }
-    Ok(blocks)
+    Ok(sensors)
 }
 
 /// Reads the signal of a route, if there is one.
