@@ -299,6 +299,7 @@ impl Connection {
         match &self.panel {
             Panel::Absent => None,
             Panel::Listening(feed) => Some(MOST_WAITING - feed.waiting()),
+            // Not `None`: the door has to hear that a panel is there that is to be closed.
             Panel::Overran => Some(MOST_WAITING),
         }
     }
@@ -375,6 +376,7 @@ fn give<R: Rows>(feed: &mut InfoFeed, rows: &R, line: &mut InfoLine) -> bool
         feed.drop_first();
         return true;
     }
+    // A new line is a few stores of zeros. `clear` would write the zeros byte by byte.
     *line = InfoLine::new();
     let Some(row) = feed.list(rows) else {
         return false;

@@ -8,6 +8,7 @@ ghost use Rattle.srcp_core.specs.Handshake.{is_version, greets_protocol, greets_
 use srcp_info::{Code, Mode};
 use srcp_text::{Words, is_keyword, words};
 
+// The definitions speak of this enum too: one type, not two.
 /// Says what a line of the handshake asks for.
 #[derive(Clone, Copy)]
 pub(crate) enum Greeting {

@@ -18,6 +18,8 @@ use srcp_rules::{Memory, Rows};
 use std::alloc::Global;
 use std::marker::{Model, PhantomData};
 
+// A type parameter, so that `carry_out` stands once and the compiler drops what an outline has no use for. The steps
+// and items of a full record take three times the memory of all else.
 /// Says how much of a run is kept.
 pub(crate) trait Detail {
     ghost use Rattle.std.specs.Prelude.{Bool};
@@ -170,6 +172,7 @@ impl<D: Detail> Recorder<D> {
             return;
         }
         if let Step::Began { session, mode, .. } = step {
+            // The step that begins the session is recorded already, so the session counts that step too.
             let go_step = self.steps.len();
             begin(&mut self.connections, conn, *session, *mode, go_step);
         }
@@ -247,6 +250,8 @@ fn free(keys: &mut Vec<Option<usize>>, conn: usize)
     }
 }
 
+// Four functions look up the record of a number, each for itself. A function that lends the record saves three lines
+// in each, but takes seven, and definitions that say what a lent record becomes.
 /// Records the beginning of a session of the connection of the number.
 fn begin(connections: &mut Vec<ConnRecord>, conn: usize, session: u32, mode: Mode, go_step: usize)
     ensures { connections.new.items

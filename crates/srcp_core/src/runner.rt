@@ -86,6 +86,7 @@ fn carry_out<R: Rows, D: Detail>(
     let mut core = Core::<R>::new(alloc, layout, 0, 0)?;
     let mut recorder = Recorder::<D>::new(alloc);
     for index in 0..events.len() {
+        // A refused event is counted by events: a line that a script skips counts for none.
         follow(&mut core, &mut recorder, index + 1, &events[index])?;
     }
     Ok(recorder.record(&core)?)
@@ -247,6 +248,7 @@ fn shut<R: Rows, D: Detail>(
     let Some(key) = recorder.key(conn) else {
         return Ok(Some(CoreFault::NoSuch));
     };
+    // The end of a session by its own command is recorded already, and a hang-up then is no further step.
     let session = core.live_session(key);
     if let Err(fault) = core.hangup(key) {
         return Ok(Some(fault));

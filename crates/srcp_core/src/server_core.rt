@@ -193,6 +193,7 @@ impl<'a, R: Rows> Core<'a, R> {
             (λ fault. (fault ≡ CoreFault.NoSuch) × (at self.old conn ≡ None)) }
         ensures core { self.new ≡ hung_up conn self.old }
     {
+        // The connection goes first: the changes of the session's end are for the other panels alone.
         let Some(connection) = self.connections.try_remove(conn) else {
             return Err(CoreFault::NoSuch);
         };

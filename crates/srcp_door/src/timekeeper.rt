@@ -8,6 +8,8 @@ use std::marker::Model;
 /// The most milliseconds by which a moment may lag behind the clock.
 const MOST_BEHIND: u64 = 600_000;
 
+// If moments followed the wall clock, setting that clock forward would end every pulse at once. So on a machine that
+// was suspended timers go on as they stood, and stamps stay behind by as long.
 /// Reports moments in milliseconds since 1970: the wall clock at the start, and what elapsed since on the monotonic
 /// clock. Contracts see both clocks at the start, and the last moment.
 ///
@@ -49,6 +51,7 @@ impl Timekeeper {
         ensures { self.new ≡ record self.old { last = passed self.old.last (target self.old elapsed) due } }
     {
         let goal = self.goal(elapsed);
+        // So changes that are due one after another come one after another, also after a stall.
         let before_due = due.map_or(goal, |due| due.saturating_sub(1));
         self.last = self.last.max(goal.min(before_due));
     }

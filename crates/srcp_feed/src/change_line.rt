@@ -148,8 +148,8 @@ impl Waiting {
     {
         match &self.held {
             Held::Line { bytes, len } => {
-                *to = InfoLine::from(*bytes);
-                to.truncate(*len);
+                *to = InfoLine::new();
+                to.try_extend_from_slice(&bytes[..*len]).unwrap();
             }
             Held::Change(change) => {
                 *to = InfoLine::new();

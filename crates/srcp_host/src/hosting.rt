@@ -47,12 +47,14 @@ pub fn serve_file<R: Rows, O: Opener>(
     ensures refused { IfErr result (λ fault. Refuses O.answers file.now opener.old opener.new fault) }
 {
     let config = read_layout(alloc, file)?;
+    // The port stands in the file, so the caller hands over an opener and no door.
     let mut door = opener.open(alloc, config.port)?;
     // Called for its contract, which says the layout's limits.
     let _ = config.layout.buses();
     let mut core = Core::<R>::new(alloc, &config.layout, 0, 0)?;
     limit_waits(&mut door, turns);
     let served = serve_sockets(&mut core, &mut door, turns);
+    // The caller gets the door back and drops the door, which delivers. So the contract says what the sockets took.
     Ok(Hosted { served, door })
 }
 
@@ -62,6 +64,7 @@ fn limit_waits<S: System>(door: &mut SocketDoor<S>, turns: u64)
     ensures faults { door.new.faults ≡ door.old.faults }
     ensures wait { door.new.sockets.most ≡ longest_of_turns turns door.old.sockets.most }
 {
+    // Counted turns are to be made even if nothing happens.
     if turns < u64::MAX {
         door.wait_at_most(LONGEST_TURN);
     }

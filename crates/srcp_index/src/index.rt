@@ -24,6 +24,7 @@ pub(crate) struct Pair {
 fn compare(since: u64, a: &Pair, b: &Pair) -> Ordering
     ensures { result ≡ order since a.now b.now }
 {
+    // So the pairs that are due stand first, in key order, which is the order of changes.
     let ranks = a
         .rank
         .saturating_sub(since)
@@ -156,6 +157,8 @@ pub(crate) struct Index {
     since: u64,
     /// The number of pairs that `reserve` made memory for.
     reserved: usize,
+    // A ring reserves capacity, as a `BTreeMap` cannot: SET of a port and moments may take no memory. Pairs that fall
+    // together are its first, and a ring moves its shorter side.
     pairs: VecDeque<Pair>,
 }
 

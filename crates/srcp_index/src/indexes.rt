@@ -42,6 +42,7 @@ impl Indexes {
         ensures moments_reserved { OnOk result (total ≤ self.new.moments.reserved) }
         ensures sessions_reserved { OnOk result (total ≤ self.new.sessions.reserved) }
     {
+        // Each row that may come and go has a place in both, with a rank or without: 24 bytes in either.
         if self.moments.reserve(total).is_err() || self.sessions.reserve(total).is_err() {
             return Err(Memory);
         }

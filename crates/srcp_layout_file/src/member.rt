@@ -45,6 +45,7 @@ pub fn read_members<E: Copy>(
 ) -> Result<Table, E>
     ensures { Gives table_view memory result (document not_toml bytes.now) }
 {
+    // Which text is no TOML document is the definition of the crate `toml`.
     match toml::table_from_slice(alloc, bytes) {
         Ok(members) => Ok(members),
         Err(fault) if fault.is_memory() => Err(memory),

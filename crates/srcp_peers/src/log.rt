@@ -73,6 +73,8 @@ impl Log {
     {}
 }
 
+// The door owns the log, so no system has a log to keep, and no law has the premise of such a log. What a call did
+// is `Made` of the system: a body that logs an answer and makes no call does not prove.
 /// Makes the calls of a system, and logs each call with its answer. A door logs its own answers between these calls.
 ///
 /// ```

@@ -58,6 +58,7 @@ pub struct Peer {
     pub ending: Ending,
     /// True if input of the peer was handed out since the last flush: the next bytes written to the peer are a reply.
     pub awaits_reply: bool,
+    // A number and no time, since a clock may show the same time for many services.
     /// The number of the peer's last service: input of the peer was handed out then, or the peer came. Each service of
     /// any peer has a greater number than those before.
     pub served: u64,
@@ -165,6 +166,7 @@ impl Peer {
     fn is_due(&self, what: Flush) -> bool
         ensures { result ≡ is_due what self.now }
     {
+        // So sixteen pieces that came together are answered by one write, and the lines of a panel go together.
         what.is_all()
             || self.outgoing.len() > FLUSH_THRESHOLD
             || self.awaits_reply && (self.backpressured || self.incoming.is_empty())
@@ -274,6 +276,7 @@ impl Peer {
             Output::Open => (),
             Output::Full if self.lines_left > 0 => self.lines_left -= 1,
             Output::Full => return 0,
+            // A read reports the loss. What is written meanwhile counts as taken, and is dropped.
             Output::Lost => return bytes.len(),
         }
         self.outgoing.take(bytes)

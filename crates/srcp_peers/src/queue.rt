@@ -11,6 +11,7 @@ use std::io::ErrorKind;
 use std::marker::Model;
 use std::vec::Vec;
 
+// The lines of a whole visit fit behind as many bytes as a queue may have before a flush.
 /// The most bytes that are queued for a peer.
 pub const MOST_OUTGOING: usize = 40_960;
 

@@ -192,6 +192,8 @@ impl Turn {
         if !self.late {
             return 1;
         }
+        // Slow turns would never catch up by single steps, since a late turn hands out nothing. All that falls due in
+        // this step comes at one moment: more than 256 changes of such a moment close a panel.
         let passed = time.saturating_sub(self.clock).min(MOST_TWICE);
         (2 * passed).max(1)
     }
@@ -303,6 +305,8 @@ impl Turn {
         ensures { result ≡ next_after self.now.clock self.now.next_line pace weight }
     {
         match pace {
+            // An INIT of an accessory with eight ports is told in nine lines. So a line each millisecond, of any
+            // weight, would bring a panel up to nine changes a millisecond.
             Pace::OneLine if weight > 0 => self.clock.saturating_add(weight as u64),
             Pace::OneLine | Pace::Paced { .. } => self.next_line,
         }
@@ -413,6 +417,8 @@ pub fn longest_wait(
     ensures due { (left : ℕ) → time_left turn.now ≡ Some left → IsWithin left result }
 {
     let left = sooner(turn.left(), most);
+    // No socket would report a queued change, held input or new space, so the turn does not wait for a socket then.
+    // All other turns wait at once: a further turn before each wait cost a lone command a tenth of its time.
     if turn.is_pending() || are_busy(peers) {
         return sooner(left, Some(turn.backpressure_delay()));
     }

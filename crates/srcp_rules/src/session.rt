@@ -37,6 +37,7 @@ pub fn begin_session<R: Rows>(
     let key = session_device(session).first_key();
     let row = row_put(moment, key, Value::Session { mode }, None);
     let change = put_of(&row);
+    // The id has no first row. A registry that is not whole may still have another row of the id, which `add` forbids.
     rows.add(&[row])?;
     Ok(change)
 }

@@ -49,6 +49,7 @@ pub fn read_script(alloc: Global, bytes: &[u8]) -> Result<Vec<Event>, ScriptFaul
     let mut rest = Some(bytes);
     let mut line_number = 0;
     while let Some(text) = rest {
+        // A raw CR belongs to the text of its line.
         let (line, behind) = cut_at(b'\n', text);
         line_number += 1;
         if !is_skipped(line)

@@ -143,6 +143,7 @@ impl<'d, D: Door> Server<'d, D> {
         ensures course { TakesMoment core.old (D.trace self.old.door.now)
             core.new (D.trace self.new.door.now) }
     {
+        // By these the door hands out no more lines than the panels can take, and sleeps until the first row is due.
         self.door.expect(core.earliest_due(), core.slack());
         match self.door.now() {
             Ok(moment) => core.advance(moment),

@@ -137,6 +137,7 @@ fn replay_input<R: Files + AllocGlobal, I: Read, W: Write>(
 
 /// Makes the layout of a server without a configuration: bus 1 with POWER alone.
 fn built_in_layout(alloc: Global) -> Result<Layout, ToolFault> {
+    // Stands in the program, since nothing else has a use for this layout.
     let mut layout = Layout::new(alloc);
     let bus = Bus {
         number: 1,
@@ -170,6 +171,8 @@ fn tool_fault(fault: HostFault) -> ToolFault
     ensures text { fault_text result ≡ host_text fault }
     ensures status { fault_status result ≡ host_status fault }
 {
+    // A port that cannot be had is a fault of three types. One type would stand in `srcp_layout_file`, which knows no
+    // socket, no command line and no status.
     match fault {
         HostFault::Config(fault) => ToolFault::Config(fault),
         HostFault::Port => ToolFault::Listen,

@@ -79,6 +79,7 @@ impl<S: System> SocketDoor<S> {
         ensures system { self.new.sockets.system ≡ self.old.sockets.system }
         ensures faults { self.new.faults ≡ self.old.faults }
     {
+        // By this limit a test makes 10,000 turns within its 60 seconds.
         self.sockets.wait_at_most(milliseconds);
     }
 
@@ -175,6 +176,8 @@ impl<S: System> Door for SocketDoor<S> {
             (length buf.old) result (got_bytes result buf.new) }
         ensures limit { self.new.sockets.most ≡ self.old.sockets.most }
     {
+        // What fell due comes first. Else a pulse that a client sends to a server that stood still might end at the
+        // moment at which the pulse begins.
         if self.sockets.is_late() {
             return self.sockets.hold_back(peer, buf);
         }

@@ -68,7 +68,8 @@ impl Socket {
     /// Notes that a write took `count` of `all` bytes.
     fn note(&mut self, count: usize, all: usize, now: u64) {
         if matches!(self.watch, Watch::Taking) && count < all {
-            // The system's own time would go on while this peer reads slowly.
+            // The system's own time would go on while this peer reads slowly: a session that read 35 KB a second
+            // without a pause was reset after 30 seconds.
             lose_after(&self.stream, 0);
         }
         self.watch = self.watch.after_write(count, all, now);
@@ -164,6 +165,7 @@ impl<C: Clock + Drop> MioSystem<C> {
             Interest::READABLE | Interest::WRITABLE | Interest::PRIORITY,
         )?;
         stream.set_nodelay(true)?;
+        // Set at the listener, the options would miss a peer that came before.
         set_options(&stream);
         self.sockets.push(Socket {
             number,
@@ -306,6 +308,8 @@ impl<C: Clock + Drop> System for MioSystem<C> {
         let waited = self
             .poll
             .poll(&mut self.events, most.map(Duration::from_millis));
+        // A wait that ended early without a ready socket was interrupted, and the rest keeps the next turns from
+        // spinning.
         let early = self.events.is_empty() && self.ends_early(most);
         if let Some(rest) = rest_after(waited.is_err(), early) {
             self.clock.sleep(Duration::from_millis(rest));

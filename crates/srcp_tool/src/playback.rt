@@ -52,6 +52,7 @@ fn run_script<K: Rows>(alloc: Global, layout: &Layout, input: &[u8]) -> Result<R
     ensures stops { IfErr result (RefusesFor (λ fault. replayed layout.now input.now ≡ Err fault)) }
 {
     let events = events_of(alloc, input)?;
+    // An outline, since a replay prints neither steps nor items, which take three times the memory of all else.
     let outline = run_in_outline::<K>(alloc, layout, &events)?;
     if outline.denied > 0 {
         return Err(ToolFault::Memory);
@@ -87,6 +88,7 @@ fn write_record<W: Write>(alloc: Global, run: &Record, writer: &mut W) -> Result
     ensures { Writes (λ text. text ≡ printed run.now) (RefusesFor (λ fault. ⊥))
         result (W.contents writer.old) (W.contents writer.new) }
 {
+    // Printed into memory first: no memory can be refused once the writing has begun.
     let end = print_end(alloc, run)?;
     write_connections(writer, run.connections.as_slice())?;
     write_whole(writer, end.as_slice())

@@ -154,6 +154,7 @@ impl<'a, R: Rows> Core<'a, R> {
         ensures counted { self.new.denied ≡ denied_by self.old.denied (result.granted ∷ []) }
     {
         let moment = self.moment;
+        // A command that could be read is a step, whatever its reply: refused memory (500) is a step without changes.
         let step = Step::Obeyed {
             session,
             moment,

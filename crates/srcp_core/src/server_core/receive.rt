@@ -43,6 +43,8 @@ impl<'a, R: Rows> Core<'a, R> {
         if connection.is_over() {
             return Some(CoreFault::Closing);
         }
+        // The bytes of a panel are like all others: once nothing is unsent they are accepted and dropped, even while
+        // the listing goes on.
         if !connection.is_sent() {
             return Some(CoreFault::Busy);
         }

@@ -57,6 +57,7 @@ pub(crate) fn tell_all(connections: &mut Slab<Connection>, panels: &[usize], cha
     if panels.is_empty() {
         return;
     }
+    // The line is written once for all panels, and each panel copies the line.
     let told = ChangeLine::new(change);
     for key in panels {
         if let Some(connection) = connections.get_mut(*key) {

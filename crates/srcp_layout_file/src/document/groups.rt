@@ -39,6 +39,7 @@ fn group_in(value: &Value) -> Result<&str, ConfigFault>
     ensures { Shows (λ name. name.now) result (group_in (data_of value.now)) }
 {
     match value.as_str() {
+        // A value that is no text is out of range, as at each other key, and only a text can be an unknown group.
         Some(name) if is_group(name) => Ok(name),
         Some(_) => Err(ConfigFault::UnknownGroup),
         None => Err(ConfigFault::OutOfRange(Field::Groups)),

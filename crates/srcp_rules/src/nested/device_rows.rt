@@ -1,51 +1,45 @@
 //! The rows of one device, by port.
 
-ghost use Rattle.std.specs.Prelude.{◌≡◌, ◌≤◌, IsTrue, length, option_copied};
+ghost use Rattle.std.specs.Prelude.{◌≡◌, ◌<◌, ◌≤◌, IsTrue, length, option_copied, slice_set};
 ghost use Rattle.srcp_info.specs.declared.change.Cursor.TheVariants.{After};
 ghost use Rattle.srcp_rules.specs.Nested.{AreOfDevice};
 ghost use Rattle.srcp_rules.specs.State.{IsRising, has_row, put_row, row_after, row_at};
 
 use crate::sorted_rows::index_of;
+use arrayvec::ArrayVec;
 use srcp_info::{Key, Row};
 use std::marker::Model;
 
 /// Keeps the rows of a device by rising port: at most N, in the value itself. Contracts see the list of the rows.
 #[derive(Drop)]
 pub(crate) struct DeviceRows<const N: usize> {
-    rows: [Row; N],
-    count: usize,
+    rows: ArrayVec<Row, N>,
 }
 
 impl<const N: usize> Model for DeviceRows<N> {
-    ghost use Rattle.std.specs.Prelude.{◌≡◌, ◌≤◌, length, take};
     ghost use Rattle.srcp_rules.specs.State.{State};
 
     ghost Value = { State };
 
-    ghost view = { λ d. take d.count d.rows };
-
-    ghost invariant = { λ d. (d.count ≤ N) × (length d.rows ≡ N) };
+    ghost view = { λ d. d.rows.items };
 }
 
 impl<const N: usize> DeviceRows<N> {
-    /// Keeps these rows. `first` is one of them.
-    pub(crate) fn of(first: &Row, rows: &[Row]) -> DeviceRows<N>
+    /// Keeps these rows.
+    pub(crate) fn of(rows: &[Row]) -> DeviceRows<N>
         requires { length rows.now ≤ N }
         ensures { result ≡ rows.now }
     {
-        let mut stored = [*first; N];
-        stored[..rows.len()].copy_from_slice(rows);
-        DeviceRows {
-            rows: stored,
-            count: rows.len(),
-        }
+        let mut kept = ArrayVec::new();
+        kept.try_extend_from_slice(rows).unwrap();
+        DeviceRows { rows: kept }
     }
 
     /// Returns the rows.
     pub(crate) fn as_slice(&self) -> &[Row]
         ensures { result.now ≡ self.now }
     {
-        &self.rows[..self.count]
+        self.rows.as_slice()
     }
 
     /// Returns the row at a key of the device. The rows differ by their ports alone.
@@ -76,7 +70,15 @@ impl<const N: usize> DeviceRows<N> {
         ensures { self.new ≡ put_row row.now self.old }
     {
         if let Ok(index) = index_of(self.as_slice(), &row.shown.key) {
-            self.rows[index] = *row;
+            put(&mut self.rows, index, *row);
         }
     }
+}
+
+/// Puts a row in the place of another.
+fn put<const N: usize>(rows: &mut ArrayVec<Row, N>, index: usize, row: Row)
+    requires { index < length rows.old.items }
+    ensures { rows.new.items ≡ slice_set rows.old.items index row }
+{
+    rows[index] = row;
 }

@@ -141,7 +141,7 @@ impl<const N: usize> Devices<N> {
     {
         let slot = first.shown.key.address as usize;
         grow(&mut self.slots, slot)?;
-        let Ok(device) = Box::new(self.alloc, DeviceRows::of(first, added)) else {
+        let Ok(device) = Box::new(self.alloc, DeviceRows::of(added)) else {
             return Err(Memory);
         };
         self.slots[slot] = Some(device);

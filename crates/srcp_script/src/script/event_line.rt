@@ -22,6 +22,7 @@ pub(super) fn read_event(alloc: Global, line: &[u8]) -> Result<Event, Cause>
         (λ cause. cause ≢ Cause.Memory → event_of line.now ≡ Err cause) }
 {
     let (word, rest) = cut_at(b' ', line);
+    // Event words are in lower case alone.
     match word {
         b"open" => open_line(rest),
         b"bytes" => bytes_line(alloc, rest),
@@ -102,6 +103,7 @@ fn last_part(rest: Option<&[u8]>) -> Result<&[u8], Cause>
 {
     match next_part(rest)? {
         (part, None) => Ok(part),
+        // An empty part counts: `shut 1 ` with a space at its end has a wrong number.
         (_, Some(_)) => Err(Cause::Number),
     }
 }

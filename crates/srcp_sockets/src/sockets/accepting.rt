@@ -136,6 +136,7 @@ impl<S: System> Sockets<S> {
         match self.system.accept(number) {
             Ok(()) => {
                 let queues = self.spare.pop().unwrap();
+                // A new peer counts as served now, so coming anew gains nothing.
                 let service = self.services.saturating_add(1);
                 self.peers.push(Peer::new(number, service, queues)).unwrap();
                 self.services = service;
@@ -161,6 +162,8 @@ impl<S: System> Sockets<S> {
         ensures is { result ≡ is_crowded self.now.peers.items }
         ensures place { result ≡ false → length self.now.peers.items < most_peers }
     {
+        // Only a peer that is owed nothing is closed for a new peer, as each client that was turned away. So a peer
+        // that is owed bytes never loses them to others.
         self.peers.len() >= MOST_PEERS || count_shut(self.peers.as_slice()) >= MOST_LINGERING
     }
 
@@ -185,6 +188,8 @@ impl<S: System> Sockets<S> {
     }
 }
 
+// Made as the door opens, 45 KB a place: so a door that runs takes no memory for a peer, and refused memory puts no
+// peer off.
 /// Makes the queues of all places.
 ///
 /// # Errors

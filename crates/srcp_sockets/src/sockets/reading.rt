@@ -46,6 +46,7 @@ impl<S: System> Sockets<S> {
     fn goes_behind(&self, peer: &Peer) -> bool
         ensures { result ≡ goes_behind self.now.turn self.now.peers.items peer.now }
     {
+        // The peer served longest ago goes first, so the stop of a throttle that was let lie goes next, from any place.
         self.turn.is_slow() && self.has_earlier(peer.served)
     }
 
@@ -117,6 +118,8 @@ impl<S: System> Sockets<S> {
 fn after_read(got: Result<Got, DoorFault>, service: u64, services: u64) -> u64
     ensures { result ≡ if hands_bytes got then service else services }
 {
+    // A single byte counts as a service. So a peer that sends without end half a line, or a line without weight, holds
+    // up each other peer once.
     if let Ok(Got::Bytes(_)) = got {
         service
     } else {

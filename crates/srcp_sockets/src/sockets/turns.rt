@@ -85,6 +85,8 @@ impl<S: System> Sockets<S> {
     fn flushing(&self, held: bool) -> Flush
         ensures { result ≡ flushing (has_ticked self.now.turn) held self.now.turn }
     {
+        // Linux finds a socket writable only once a third of its buffer is free. Without another try each millisecond,
+        // a panel that reads 20 lines a millisecond is closed.
         if self.has_ticked() && self.turn.is_short() {
             Flush::Again
         } else if self.has_ticked() || !held && !self.turn.is_pending() {

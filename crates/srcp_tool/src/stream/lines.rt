@@ -60,6 +60,7 @@ impl MirroredLines {
         loop {
             let (line, behind) = cut_at(b'\n', rest);
             self.begun.add(line);
+            // The bytes behind the last LF are neither applied nor refused, however many.
             let Some(behind) = behind else {
                 return Ok(());
             };
@@ -78,6 +79,7 @@ impl MirroredLines {
         ensures count { self.new.count ≤ self.old.count + 1 }
     {
         match self.begun.line() {
+            // Each line is judged alone: a lock without its device is accepted, and so is port 7 on any bus.
             Some(line) => self.mirror.apply(line)?,
             None => return Err(MirrorFault::NotInfo),
         }

@@ -1,22 +1,15 @@
-use Rattle.srcp_rules.proofs.Names.{arith, ◌<◌, length, take, slice_set, is_some, sym, ap, subst, ◌∙◌, true≢false, State, row_at}
+use Rattle.srcp_rules.proofs.Names.{slice_set, is_some, sym, ap, ◌∙◌, true≢false, State, row_at}
 use Rattle.srcp_rules.proofs.RowIndexLaws.{set-put_row, row_at-gap}
-use Rattle.std.proofs.Math.Seq.{take-set-lt}
-use Rattle.std.proofs.lemmas.List.{length-take}
 use Rattle.srcp_rules.proofs.nested.device_rows.DeviceRows.set.Goals as goal
 
 pub returns-in-Ok : goal.returns-in-Ok
 returns-in-Ok g c =
     let index = c.in-Ok.index in
     let row = c.args.row.now in
-    let inside = c.self.inside in
-    let kept = c.args.self.now in
     let at = rw c.as_slice.ensures at c.in-Ok.ensures.at in
-    let within : index < length (take inside.count inside.rows) =
-    subst (λ (state : State). index < length state) (sym c.self.view_is) at.within in
-    let count = length-take inside.count inside.rows in
-    take-set-lt inside.count inside.rows index row (omega (arith, within, count))
+    c.put.ensures
     ∙ ap (λ (state : State). slice_set state index row) c.self.view_is
-    ∙ set-put_row kept c.requires.rising row index at
+    ∙ set-put_row c.args.self.now c.requires.rising row index at
 
 -- the key is there, so it has a index
 pub returns-in_default : goal.returns-in_default
