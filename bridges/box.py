@@ -13,23 +13,22 @@ import contextlib
 from collections.abc import Awaitable, Callable, Coroutine
 from typing import Any
 
+from srcp_bridges.limits import ANSWER, PULSE, SOON, STOPS, TURNOUT_PACE
+from srcp_bridges.plan.interlock import (Accessory, Interlock, RoutePlan, Sensor, locked, reported, server_program,
+                                         thrown, thrown_by_hand)
+from srcp_bridges.plan.occupancy import Occupancy
+from srcp_bridges.plan.trains import Train
 from srcp_bridges.program import Wrong, arguments, run, say
-
-from srcp_bridges.interlock import (Accessory, Interlock, RoutePlan, Sensor, locked, reported, server_program, thrown,
-                                    thrown_by_hand)
-from srcp_bridges.occupancy import Occupancy
-from srcp_bridges.rows import Change, Port, Refused, position
-from srcp_bridges.srcp import ANSWER, SOON, Mirror, Session
-
-STOPS = 2  # the port of a route's accessory that stops its signal
-PULSE = 250  # milliseconds of an accessory that this program puts by itself
+from srcp_bridges.srcp.mirrors import Mirror
+from srcp_bridges.srcp.replies import Code, Refused
+from srcp_bridges.srcp.rows import Change, Port, Row, position
+from srcp_bridges.srcp.sessions import Session
 
 
 class Box:
     """`interlock` is told what the panel tells. `joined` has the sessions that were begun, and `set` the routes that
-    are set, or about to be told so. `wanted` has the routes that are asked for, and `own` the ports that this program
-    itself put to 1 and its
-    panel has not told yet."""
+    are set, or about to be told so. `trains` has the trains of these that are followed. `wanted` has the routes that
+    are asked for, and `own` the ports that this program itself put to 1 and its panel has not told yet."""
 
     def __init__(self, asked: argparse.Namespace) -> None:
         self.asked = asked
@@ -37,6 +36,7 @@ class Box:
         self.interlock: Interlock | None = None
         self.joined: asyncio.Queue[Session] = asyncio.Queue()
         self.set: set[int] = set()
+        self.trains: dict[int, Train] = {}
         self.stopped: set[int] = set()  # routes that are set, and whose signal was stopped since
         self.thrown: set[Accessory] = set()  # turnouts that a hand has thrown since this program did
         self.wanted: set[int] = set()
@@ -102,7 +102,10 @@ class Box:
         if not isinstance(change.row, Port) or not change.row.value:
             return True
         if (route, port) not in self.own:
-            (self.wanted.add if port == 1 else self.wanted.discard)(route)
+            if port == 1:
+                self.wanted.add(route)
+            else:
+                self.give_up(route)
             return True
         self.own.remove((route, port))
         if port == 0 and route in self.wanted:
@@ -110,13 +113,25 @@ class Box:
         return False
 
     def sensed(self, sensor: Sensor, change: Change) -> None:
-        """A train comes into a block, or has passed the sensor that frees its route."""
+        """A train comes into a block, or has passed the sensor that frees its route, or the sections of its route."""
         is_on = isinstance(change.row, Port) and change.row.value
         was_on = isinstance(change.before, Port) and change.before.value
         for route in self.set:
             self.look_at_blocks(route)
             if was_on and not is_on and self.plan.frees.get(route) == sensor:
-                self.wanted.discard(route)
+                self.give_up(route)
+        self.look_at_trains(sensor, change.row)
+
+    def look_at_trains(self, sensor: Sensor, row: Row | None) -> None:
+        """Follows the trains of set routes by what a sensor says."""
+        for route, train in [*self.trains.items()]:
+            if isinstance(row, Port) and train.told(sensor, bool(row.value), self.occupancy.is_occupied):
+                self.give_up(route)
+
+    def give_up(self, route: int) -> None:
+        """A route is asked for no more, and its train is followed no more."""
+        self.wanted.discard(route)
+        self.trains.pop(route, None)
 
     def look_at_blocks(self, route: int) -> None:
         """Stops the signal of a set route that has a block which is not known to be free."""
@@ -159,6 +174,7 @@ class Box:
                     self.interlock.tell_unknown(sensor)
                 elif self.interlock:
                     self.interlock.tell_row((bus, "FB", sensor[1], "does"), self.occupancy.known(sensor))
+                    self.look_at_trains(sensor, self.occupancy.known(sensor))
         for route in self.set:
             self.look_at_blocks(route)
 
@@ -167,7 +183,7 @@ class Box:
     async def put(self, route: int, port: int) -> None:
         """Puts the accessory of a route to a port, as this program's own doing."""
         self.own.append((route, port))
-        if await self.order(self.mirror, f"SET {self.plan.bus} GA {route} {port} 1 {PULSE}") != "200 OK":
+        if await self.order(self.mirror, f"SET {self.plan.bus} GA {route} {port} 1 {PULSE}"):
             self.own.remove((route, port))
 
     def stop(self, route: int, why: str) -> None:
@@ -238,13 +254,14 @@ class Box:
 
     # ---- what it is ordered
 
-    async def order(self, session: Mirror | Session, command: str) -> str:
-        """Returns the server's reply; tells of a refusal."""
+    async def order(self, session: Mirror | Session, command: str) -> Refused | None:
+        """Has the server carry out a command; returns its refusal, and tells of that."""
         try:
-            return f"200 {await session.ask(command)}"
-        except Refused as refusal:
-            say(f"{command}: {refusal}")
-            return str(refusal)
+            await session.ask(command)
+            return None
+        except Refused as refused:
+            say(f"{command}: {refused}")
+            return refused
 
     async def carry_out(self, session: Session, to_rest: bool = False) -> None:
         """Carries out what a new `interlock` orders, until it ends; `to_rest`: until all routes are at rest."""
@@ -252,12 +269,13 @@ class Box:
         interlock = await Interlock.begin(self.plan, session.id or 0, sensors)
         self.interlock, left = None if to_rest else interlock, len(self.plan.names)
         self.wanted.clear()
+        self.trains.clear()
         self.own.clear()
         try:
             while (left or not to_rest) and (order := await interlock.order()):
-                reply = await self.carry(session, order)
-                interlock.tell(reply)
-                comes_to_rest = await self.follow(order, reply == "200 OK")
+                refused = await self.carry(session, order)
+                interlock.tell(str(refused or "200 OK"))
+                comes_to_rest = await self.follow(order, not refused)
                 left -= comes_to_rest
                 if comes_to_rest and left == 0 and not to_rest:
                     say(f"none of {len(self.plan.names)} routes is set")
@@ -265,22 +283,26 @@ class Box:
             self.interlock = None
             await interlock.gone()
 
-    async def carry(self, session: Session, order: str) -> str:
-        """Carries out an order; returns the reply. A turnout that somebody has removed is made again, and one that is
+    async def carry(self, session: Session, order: str) -> Refused | None:
+        """Carries out an order; returns its refusal. A turnout that somebody has removed is made again, and one that is
         thrown is given the time that its station takes for it."""
         route, is_set = reported(order) or (None, False)
         self.thrown.discard(thrown(order, self.plan) or (0, 0))
         if route and is_set:
             self.set.add(route)
-        elif route and route not in self.wanted:  # before anybody hears that the route is free
+            if route in self.wanted:
+                self.trains[route] = Train(self.plan.sections[route])
+        elif route:
+            self.trains.pop(route, None)
+        if route and not is_set and route not in self.wanted:  # before anybody hears that the route is free
             await self.put_back([route], self.put)
-        reply = await self.order(session, order)
-        if reply.startswith("416") and (turnout := locked(order)):
+        refused = await self.order(session, order)
+        if refused and refused.code == Code.NO_DATA and (turnout := locked(order)):
             await self.order(session, "INIT {} GA {} N".format(*turnout))
-            reply = await self.order(session, order)
+            refused = await self.order(session, order)
         if turnout := thrown(order, self.plan):
             await asyncio.sleep(1 / self.asked.turnout_pace)
-        return reply
+        return refused
 
     async def follow(self, order: str, is_accepted: bool) -> bool:
         """Follows what becomes of a route. Returns whether it comes to rest by this order, if all begins."""
@@ -318,6 +340,6 @@ if __name__ == "__main__":
     words = arguments(__doc__)
     words.add_argument("--plan", required=True, metavar="FILE", help="its routes; web.py reads the same file")
     words.add_argument("--program", default=server_program(), metavar="FILE", help="that of the server (%(default)s)")
-    words.add_argument("--turnout-pace", type=float, default=3.0, metavar="NUMBER",
+    words.add_argument("--turnout-pace", type=float, default=TURNOUT_PACE, metavar="NUMBER",
                        help="turnouts that a station moves in a second (%(default)s): a signal shows go later")
     run(begin(words.parse_args()))

@@ -12,13 +12,13 @@ protocols M and S are left out. Decoders on the programming track are programmed
 import argparse
 import re
 
+from srcp_bridges.limits import ASKS, MOST_FUNCTIONS
 from srcp_bridges.program import run, say
-from srcp_bridges.rows import FORWARD
+from srcp_bridges.srcp.rows import FORWARD
 from srcp_bridges.stations.awaited import Part, Value
 from srcp_bridges.stations.confirmed import Confirmed
 from srcp_bridges.stations.line import Line, place
 from srcp_bridges.stations.station import words_of_driver
-from srcp_bridges.stations.track import FUNCTIONS
 
 MESSAGE = re.compile(
     r"<(?:(?P<banner>iDCC.*)|(?P<sensor>[Qq]) (?P<number>\d{1,5})|# (?P<slots>\d{1,4})"
@@ -28,7 +28,6 @@ MESSAGE = re.compile(
     re.ASCII | re.DOTALL)
 CABS = range(1, 1 << 14)  # addresses of locomotives
 BYTE = range(256)
-ASKS = 5  # looks at what is not confirmed from one question how a locomotive drives to the next
 
 
 def ask_locomotive(address: int) -> bytes:
@@ -178,7 +177,7 @@ class DccEx(Confirmed):
         """Takes what a station has kept, of before this driver, or as the line lost its stops: a locomotive that drives
         is told to stand, and functions are put as the registry has them."""
         kept: dict[Part, Value] = {("cab", address): drives} if drives[0] > 0 else {}
-        kept |= {("function", address, number): 1 for number in range(FUNCTIONS) if functions >> number & 1}
+        kept |= {("function", address, number): 1 for number in range(MOST_FUNCTIONS) if functions >> number & 1}
         for part, value in kept.items():
             if part not in self.track.told:
                 self.track.told[part] = self.hands.reports.reported[part] = value

@@ -8,9 +8,10 @@ import argparse
 import asyncio
 
 from srcp_bridges.program import arguments, run, say
-from srcp_bridges.rows import Change, Lock, Refused
-from srcp_bridges.srcp import Mirror
-from srcp_bridges.stop import Locomotive
+from srcp_bridges.srcp.mirrors import Mirror
+from srcp_bridges.srcp.replies import Refused
+from srcp_bridges.srcp.rows import Change, Lock
+from srcp_bridges.srcp.stop import Locomotive
 
 
 class Guard:

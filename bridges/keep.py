@@ -11,13 +11,14 @@ import asyncio
 import os
 import shutil
 from collections.abc import Callable
+from srcp_bridges.limits import MOST_PORTS, PORTS_APART, SOON
 from srcp_bridges.program import CannotGoOn, arguments, run, say
-from srcp_bridges.rows import (EMERGENCY_STOP, FORWARD, STOP_ALL, Device, Drive, Port, Power, Refused, Rows,
-                               is_of_driver, position)
-from srcp_bridges.srcp import Mirror, Session
+from srcp_bridges.srcp.mirrors import Mirror
+from srcp_bridges.srcp.replies import Refused
+from srcp_bridges.srcp.rows import (EMERGENCY_STOP, FORWARD, STOP_ALL, Device, Drive, Port, Power, Rows, is_of_driver,
+                                    position)
+from srcp_bridges.srcp.sessions import Session
 
-TOGETHER = 0.002  # seconds between two ports of an accessory, so that their stamps tell which was put last
-SOON = 0.01  # seconds until it is looked again whether the panel has told what was made
 GROUPS = ["POWER", "GL", "GA"]
 
 
@@ -36,7 +37,7 @@ def commands_of(rows: Rows, power: bool, way: Callable[[int, int], int] = lambda
             mode = way(bus, address) if drive.mode == EMERGENCY_STOP else drive.mode
             words = [mode, 0, drive.v_max, *drive.functions]
             commands.append(f"SET {bus} GL {address} {' '.join(map(str, words))}")
-        told = [(number, rows.get((bus, group, address, number))) for number in range(8)]
+        told = [(number, rows.get((bus, group, address, number))) for number in range(MOST_PORTS)]
         ports = [(number, port) for number, port in told if isinstance(port, Port)]
         put = position(rows, bus, address)
         for number, (stamp, value) in sorted(ports, key=lambda port: (port[0] == put, port[1])):  # it comes last
@@ -121,7 +122,7 @@ class Keeper:
         except Refused as reply:
             self.refused(command, reply)
             return False
-        await asyncio.sleep(TOGETHER if command.upper().split()[2:3] == ["GA"] else 0)
+        await asyncio.sleep(PORTS_APART if command.upper().split()[2:3] == ["GA"] else 0)
         return True
 
     def refused(self, command: str, why: object) -> None:

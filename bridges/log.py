@@ -10,13 +10,13 @@ import asyncio
 import time
 
 from srcp_bridges import state
+from srcp_bridges.limits import SESSION_TOLD
 from srcp_bridges.program import arguments, names, run, tell
-from srcp_bridges.rows import BACKWARD, EMERGENCY_STOP, FORWARD, Change, Drive, Lock, Peer, Port, Power
-from srcp_bridges.srcp import Mirror
+from srcp_bridges.srcp.mirrors import Mirror
+from srcp_bridges.srcp.rows import BACKWARD, EMERGENCY_STOP, FORWARD, Change, Drive, Lock, Peer, Port, Power
 
 MODES = {BACKWARD: "backward", FORWARD: "forward", EMERGENCY_STOP: "emergency stop"}
 KINDS = {"GL": "locomotive", "GA": "accessory"}
-SOON = 0.3  # seconds until a program has told that a session is its own
 
 
 def words_of(change: Change, whose: dict[int, str]) -> str:
@@ -77,7 +77,7 @@ class Log:
     def follow(self, session: int, is_there: bool) -> None:
         """Has the name of a session that begins looked up soon, and forgets that of one that ends."""
         if is_there and session not in self.whose:
-            asyncio.get_running_loop().call_later(SOON, self.look_up, session)
+            asyncio.get_running_loop().call_later(SESSION_TOLD, self.look_up, session)
         elif not is_there:
             self.whose.pop(session, None)
 

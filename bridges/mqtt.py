@@ -22,19 +22,15 @@ after it. What is not carried out is told at PREFIX/error. Retained commands are
 import argparse
 import asyncio
 import json
-# `program` first: it says which Python it takes.
+
+from srcp_bridges.limits import BROKER_LOOK, LONGEST_PAYLOAD, LOOKED_AT, READING
+from srcp_bridges.page.broker import check, connect, matches, paho, publish
+from srcp_bridges.page.orders import Orders
+from srcp_bridges.page.topics import announced, device_of, node, shown, stop_button
 from srcp_bridges.program import PORT, Wrong, arguments, names, run, say
-
-from srcp_bridges.broker import check, connect, matches, paho, publish
-from srcp_bridges.orders import Orders
-from srcp_bridges.rows import Change, Device, Refused, keys_of
-from srcp_bridges.srcp import Mirror
-from srcp_bridges.topics import announced, device_of, node, shown, stop_button
-
-MOMENT = 0.3  # seconds until what the broker has and the registry has not is looked at again
-READING = 15.0  # seconds that the reading of what the broker has may take
-LONGEST = 1000  # bytes of a command
-LOOKED_AT = 20000  # bytes of a payload; this program sends none that is longer
+from srcp_bridges.srcp.mirrors import Mirror
+from srcp_bridges.srcp.replies import Code, Refused
+from srcp_bridges.srcp.rows import Change, Device, keys_of
 
 
 class Bridge:
@@ -99,7 +95,7 @@ class Bridge:
         while True:
             await self.behind.wait()
             self.behind.clear()
-            await asyncio.sleep(MOMENT)
+            await asyncio.sleep(BROKER_LOOK)
             for topic in list(self.late):
                 self.put(topic)
 
@@ -114,7 +110,7 @@ class Bridge:
                     await self.look_at(topic)
             except OSError:
                 pass  # the server has gone meanwhile
-            await asyncio.sleep(MOMENT)
+            await asyncio.sleep(BROKER_LOOK)
 
     async def look_at(self, topic: str) -> None:
         """Takes out what the broker shows of no row. If its device is not listed (yet), the server is asked."""
@@ -135,7 +131,7 @@ class Bridge:
         try:
             return bool(await self.mirror.ask(f"GET {bus} {words}"))
         except Refused as reply:
-            return str(reply).startswith("416")
+            return reply.code == Code.NO_DATA
 
     def place(self, topic: str) -> str:
         """Returns a topic without its prefix; of an announcement, the name of its device."""
@@ -144,7 +140,7 @@ class Bridge:
     def refused(self, place: str, text: str, fault: Exception | str) -> None:
         if self.following:
             words = {"topic": f"{self.prefix}{place}", "payload": text, "reply": str(fault)}
-            cut = {name: word[:LONGEST] for name, word in words.items()}
+            cut = {name: word[:LONGEST_PAYLOAD] for name, word in words.items()}
             self.client.publish(self.prefix + "error", json.dumps(cut))
 
     def heard(self, topic: str, payload: bytes, retained: bool) -> None:
@@ -160,7 +156,7 @@ class Bridge:
             self.found(topic, text)
         elif topic.startswith(self.prefix) and topic.endswith("/set"):
             place = self.place(topic).removesuffix("/set")
-            if retained or len(payload) > LONGEST:
+            if retained or len(payload) > LONGEST_PAYLOAD:
                 self.refused(place, text, "retained" if retained else "too long")
             else:
                 self.orders.take(place, text)

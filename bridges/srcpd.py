@@ -24,18 +24,14 @@ import re
 import time
 from collections.abc import Callable, Coroutine
 
-from srcp_bridges.old_words import FORBIDDEN, LATE, NO_DATA, NUMBER, SHORT, UNSUPPORTED, Answers, fault
-from srcp_bridges.places import Full, Places, add_arguments, listen
+from srcp_bridges.limits import CLIENTS, CLIENTS_OF_ONE, LINES_WAITING, LINGER, LONGEST_READ, PULSE
+from srcp_bridges.page.places import Full, Places, add_arguments, listen
 from srcp_bridges.program import arguments, run, say
-from srcp_bridges.service_mode import ServiceMode
+from srcp_bridges.srcp.old_words import FORBIDDEN, LATE, NO_DATA, NUMBER, SHORT, UNSUPPORTED, Answers, fault
+from srcp_bridges.srcp.replies import Code
+from srcp_bridges.srcp.service_mode import ServiceMode
 from srcp_bridges.state import SELF
 
-CLIENTS = 40  # that are served in all
-OF_ONE = 20  # those of one address
-LONGEST = 1000  # bytes of a line that the server reads
-WAITING = 1000  # lines of a client that may wait
-LINGER = 10.0  # seconds for which a WAIT goes on once its client has closed its side
-PULSE = 250  # milliseconds for which a turnout is thrown for a client that knows port 0 alone
 PORTS = re.compile(rb"(\S+ 100 INFO \d+ GA \d+ )([01]) ([01])\n")  # what a panel is told of a turnout
 FOREIGN = re.compile(rb"([ \t]*INIT[ \t]+\d+[ \t]+G[LA][ \t]+\d+[ \t]+)[AFLZ](?=[ \t\r]|$)", re.I)
 
@@ -45,7 +41,7 @@ class Proxy:
 
     def __init__(self, asked: argparse.Namespace):
         self.asked = asked
-        self.places = Places(CLIENTS, OF_ONE)
+        self.places = Places(CLIENTS, CLIENTS_OF_ONE)
         self.clients: set[Client] = set()
         self.answers = Answers(asked, lambda text: self.tell(text, lambda client: client.asked_time))
 
@@ -79,7 +75,7 @@ class Client:
         self.proxy = proxy
         self.reader = reader
         self.writer = writer
-        self.lines: asyncio.Queue[bytes | None] = asyncio.Queue(WAITING)
+        self.lines: asyncio.Queue[bytes | None] = asyncio.Queue(LINES_WAITING)
         self.replies: asyncio.Queue[bytes] = asyncio.Queue()  # those that came, and an empty one at the end
         self.keeps = False  # replies from the client: this program has asked
         self.mode = "COMMAND"
@@ -100,8 +96,8 @@ class Client:
             while more := await self.reader.read(1 << 16):
                 *lines, begun = (begun + more).split(b"\n")
                 for line in lines:
-                    await self.lines.put(line[:LONGEST + 9])
-                begun = begun[:LONGEST + 9]
+                    await self.lines.put(line[:LONGEST_READ + 9])
+                begun = begun[:LONGEST_READ + 9]
         except OSError:
             pass  # it has gone
         await self.lines.put(None)
@@ -172,7 +168,7 @@ class Client:
         keywords = [word.upper() for word in words]
         if not self.id and re.fullmatch("SET CONNECTIONMODE SRCP (COMMAND|INFO)", " ".join(keywords)):
             self.mode = keywords[3]
-        if self.id and len(line) <= LONGEST and len(words) > 2 and NUMBER.fullmatch(words[1]):
+        if self.id and len(line) <= LONGEST_READ and len(words) > 2 and NUMBER.fullmatch(words[1]):
             if reply := await self.answer(keywords[0], int(words[1]), keywords[2], words[3:]):
                 if not self.is_panel or " ERROR " not in reply:
                     self.say(reply)
@@ -191,7 +187,7 @@ class Client:
         """Has the server carry out SET or CHECK of a locomotive. Functions that it does not have are left out: the
         server refuses also a stop that has them."""
         reply = await self.ask(line)
-        if reply.split()[1:2] == [b"418"]:
+        if reply.split()[1:2] == [b"%d" % Code.TOO_LONG]:
             row = (await self.ask(f"GET {words[1]} GL {words[3]}".encode("latin-1"))).split()
             if row[1:2] == [b"100"] and len(words) > len(row) - 2:  # a row has two words more than its SET
                 reply = await self.ask(" ".join(words[:len(row) - 2]).encode("latin-1"))

@@ -16,48 +16,46 @@ import math
 import secrets
 import urllib.parse
 
-from srcp_bridges.announce import announce
-from srcp_bridges.entrance import Entrance, guest_of
-from srcp_bridges.hosts import address_of, is_own, to_type
-from srcp_bridges.network import kept_word, show_code
-from srcp_bridges.page import BEHIND, Page, event, row_event
-from srcp_bridges.page_files import EVENTS, FILES, PAGE, STOPPED, WORD
-from srcp_bridges.places import Full, Places, add_arguments, listen
-from srcp_bridges.plan import read_plan
+from srcp_bridges.limits import (ARRIVE, BEHIND, CONNECTIONS, CONNECTIONS_OF_ONE, DRIVERS_LOOK, IDLE, KEPT, KEPT_OF_ONE,
+                                 LONGEST_HEAD, PAGES_OF_ONE, PAGE_SILENCE)
+from srcp_bridges.page.announce import announce
+from srcp_bridges.page.entrance import Entrance, guest_of
+from srcp_bridges.page.hosts import address_of, is_own, to_type
+from srcp_bridges.page.network import kept_word, show_code
+from srcp_bridges.page.page import Page, event, row_event
+from srcp_bridges.page.page_files import EVENTS, FILES, PAGE, STOPPED, WORD
+from srcp_bridges.page.places import Full, Places, add_arguments, listen
+from srcp_bridges.page.request import NO_REQUEST, TEXT, Request, answer, read_request
+from srcp_bridges.plan.plan import read_plan
 from srcp_bridges.program import arguments, names, run, say
-from srcp_bridges.request import ARRIVE, IDLE, LONGEST_HEAD, NO_REQUEST, TEXT, Request, answer, read_request
-from srcp_bridges.rows import ALL_STOOD, STOP_ALL, Change, Power
-from srcp_bridges.srcp import Mirror
+from srcp_bridges.srcp.mirrors import Mirror
+from srcp_bridges.srcp.replies import Refused, outcome
+from srcp_bridges.srcp.rows import ALL_STOOD, STOP_ALL, Change, Power
+from srcp_bridges.srcp.stop import Fault, stop_all, unsure
 from srcp_bridges.state import stations
-from srcp_bridges.stop import stop_all, unsure
 
-AT_ONCE = 4  # pages of one browser: it has 6 connections, and STOP ALL needs one that is free
-MOST = 400  # connections in all
-MOST_OF_ONE = 100  # those of one address
-KEPT = 40  # further ones, for stops alone
-KEPT_OF_ONE = 4
-LOOK = 1.0  # seconds until it is looked again at what drivers tell
 HTML = "text/html; charset=utf-8"
 JSON = "application/json"
 Answer = tuple[int, str, str]  # status, kind and body
 BEGUN = "HTTP/1.1 200 OK\r\nContent-Type: text/event-stream\r\nCache-Control: no-store\r\nConnection: close\r\n\r\n"
 
 
-def is_ours(asked: Request) -> bool:
+def is_ours(request: Request) -> bool:
     """Returns whether a page of ours asks: no other site's page, and no other site's name that leads here."""
-    host, site = asked.headers.get("host", ""), asked.headers.get("sec-fetch-site", "none")
-    is_elsewhere = asked.path != "/" and site not in ("none", "same-origin")  # a link may lead to the page, and no more
-    return is_own(host) and asked.headers.get("origin", f"http://{host}") == f"http://{host}" and not is_elsewhere
+    host, site = request.headers.get("host", ""), request.headers.get("sec-fetch-site", "none")
+    # A link may lead to the page, and no more.
+    is_elsewhere = request.path != "/" and site not in ("none", "same-origin")
+    return is_own(host) and request.headers.get("origin", f"http://{host}") == f"http://{host}" and not is_elsewhere
 
 
-def enter(entrance: Entrance, writer: asyncio.StreamWriter, asked: Request, guest: str) -> bool:
+def enter(entrance: Entrance, writer: asyncio.StreamWriter, request: Request, guest: str) -> bool:
     """Asks for the word. Who was wrong too often has to wait; nobody else has."""
     page = WORD
     if wait := entrance.wait(guest):
         return answer(writer, 429, HTML, page.replace('data-wait="0"', f'data-wait="{math.ceil(wait)}"'))
-    is_wrong = bool(asked.cookies.get(entrance.cookie))  # of before a restart, or a guess
-    if (asked.method, asked.path) == ("POST", "/word"):
-        word = urllib.parse.parse_qs(asked.body).get("word", [""])[0]
+    is_wrong = bool(request.cookies.get(entrance.cookie))  # of before a restart, or a guess
+    if (request.method, request.path) == ("POST", "/word"):
+        word = urllib.parse.parse_qs(request.body).get("word", [""])[0]
         if token := entrance.enter(guest, word):
             return answer(writer, 303, TEXT, "", [f"{entrance.cookie}={token}"])
         is_wrong = True
@@ -66,6 +64,13 @@ def enter(entrance: Entrance, writer: asyncio.StreamWriter, asked: Request, gues
     if is_wrong:
         say(f"page {guest}: a wrong word{', and has to wait' if entrance.wait(guest) else ''}")
     return answer(writer, 401, HTML, page, [f"{entrance.cookie}="] * is_wrong)
+
+
+def told_of_stop(faults: list[Fault]) -> dict[str, object]:
+    """Returns what a page is told became of a STOP ALL: also what could not be stopped, thing by thing."""
+    of_all = [fault.why for fault in faults if not fault.whose]
+    whole = of_all[0] if of_all else Refused(None, "; ".join(map(str, faults))) if faults else None
+    return outcome(whole) | {"faults": [outcome(fault.why) | {"key": fault.whose} for fault in faults if fault.whose]}
 
 
 class Web:
@@ -80,22 +85,24 @@ class Web:
         self.is_open = not (address and address.is_loopback)
         self.word = asked.word or (kept_word() if self.is_open else None)
         self.entrance = Entrance(self.word, asked.web) if self.word else None
-        self.places = Places(MOST, MOST_OF_ONE)
+        self.places = Places(CONNECTIONS, CONNECTIONS_OF_ONE)
         self.kept = Places(KEPT, KEPT_OF_ONE)
         self.turned_away: str | None = None
-        self.left_out: dict[str, str] = {}
+        self.left_out: dict[str, dict[str, object]] = {}
         self.stops_told = 0  # the STOP ALLs that pages were told of
         self.asking: asyncio.Task[None] | None = None  # whether the drivers confirm the last one
 
     async def look_at_drivers(self) -> None:
-        """Tells pages what the drivers of this machine cannot drive, and why; of each bus its own driver counts."""
+        """Tells pages what the drivers of this machine cannot drive, and why; of each bus its own driver counts. A
+        driver of before an upgrade tells why in words alone."""
         while True:
-            told = [(name, why) for station in stations(self.asked.port) for name, why in station["left_out"].items()
-                    if name.split(" ")[0] == str(station["bus"])]
-            if self.left_out != (found := dict(told)):
+            found = {name: {"why": why, **station.get("left_out_by", {}).get(name, {})}
+                     for station in stations(self.asked.port) for name, why in station["left_out"].items()
+                     if name.split(" ")[0] == str(station["bus"])}
+            if self.left_out != found:
                 self.left_out = found
                 self.tell(event("leftOut", found))
-            await asyncio.sleep(LOOK)
+            await asyncio.sleep(DRIVERS_LOOK)
 
     def told(self, change: Change) -> None:
         self.tell(row_event(self.mirror, change.key, change.row))
@@ -113,7 +120,7 @@ class Web:
         guest = guest_of(peer[0])
         try:
             with self.places.place(guest):
-                while await self.request(reader, writer, guest):
+                while await self.answer_next(reader, writer, guest):
                     await writer.drain()
         except Full as fault:
             await self.serve_stop(reader, writer, guest, fault)
@@ -130,34 +137,34 @@ class Web:
         self.turned_away = guest
         try:
             with self.kept.place(guest):
-                await self.request(reader, writer, guest, only="/stop")
+                await self.answer_next(reader, writer, guest, only="/stop")
         except (Full, *NO_REQUEST):
             pass
 
-    async def request(self, reader: asyncio.StreamReader, writer: asyncio.StreamWriter, guest: str,
-                      only: str | None = None) -> bool:
+    async def answer_next(self, reader: asyncio.StreamReader, writer: asyncio.StreamWriter, guest: str,
+                          only: str | None = None) -> bool:
         """Answers a request; returns whether the connection goes on. `only`: the path that is not turned away."""
-        asked = await read_request(reader, ARRIVE if only else IDLE)
-        if not is_ours(asked):
+        request = await read_request(reader, ARRIVE if only else IDLE)
+        if not is_ours(request):
             return answer(writer, 403, TEXT, "not from here\n")
-        if only not in (None, asked.path):
+        if only not in (None, request.path):
             return answer(writer, 503, TEXT, "too many connections\n")
-        if asked.body is None:
+        if request.body is None:
             return answer(writer, 413, TEXT, "too long\n")
-        if asked.method == "GET" and asked.path in FILES:
-            return answer(writer, 200, *FILES[asked.path])
-        if self.entrance and not self.entrance.is_open(asked.cookies.get(self.entrance.cookie, "")):
-            return enter(self.entrance, writer, asked, guest)
-        if (asked.method, asked.path) == ("GET", EVENTS):
-            return await self.events(reader, writer, asked.cookies.get("srcp_browser"))
-        if (asked.method, asked.path) == ("GET", "/"):
-            kept = [] if "srcp_browser" in asked.cookies else [f"srcp_browser={secrets.token_hex(8)}"]
+        if request.method == "GET" and request.path in FILES:
+            return answer(writer, 200, *FILES[request.path])
+        if self.entrance and not self.entrance.is_open(request.cookies.get(self.entrance.cookie, "")):
+            return enter(self.entrance, writer, request, guest)
+        if (request.method, request.path) == ("GET", EVENTS):
+            return await self.events(reader, writer, request.cookies.get("srcp_browser"))
+        if (request.method, request.path) == ("GET", "/"):
+            kept = [] if "srcp_browser" in request.cookies else [f"srcp_browser={secrets.token_hex(8)}"]
             return answer(writer, 200, HTML, PAGE, kept)
-        if (asked.method, asked.path) == ("POST", "/stop") and "x-page" not in asked.headers:
-            return answer(writer, *await self.stop_by_form(asked.cookies))
-        if asked.method == "POST" and "x-page" in asked.headers:  # other sites cannot send this header
-            seen = asked.headers.get("x-stops", "0")
-            return answer(writer, *await self.obey(asked.path, asked.headers["x-page"], asked.body, int(seen)))
+        if (request.method, request.path) == ("POST", "/stop") and "x-page" not in request.headers:
+            return answer(writer, *await self.stop_by_form(request.cookies))
+        if request.method == "POST" and "x-page" in request.headers:  # other sites cannot send this header
+            seen = request.headers.get("x-stops", "0")
+            return answer(writer, *await self.obey(request.path, request.headers["x-page"], request.body, int(seen)))
         return answer(writer, 404, TEXT, "no such page\n")
 
     async def stop_by_form(self, cookies: dict[str, str]) -> Answer:
@@ -166,7 +173,7 @@ class Web:
         if "srcp_browser" not in cookies:
             return 404, TEXT, "no such page\n"
         faults = await self.stop_all()
-        said = f"STOP ALL FAILED. {'; '.join(faults)}" if faults else "All locomotives stand."
+        said = f"STOP ALL FAILED. {'; '.join(map(str, faults))}" if faults else "All locomotives stand."
         return 200, HTML, STOPPED.replace("{class}", "failed" * bool(faults)).replace("{said}", html.escape(said))
 
     async def obey(self, path: str, key: str, body: str, seen: int = 0) -> Answer:
@@ -179,24 +186,22 @@ class Web:
         if page:
             page.heard = now
         if path == "/stop" and not body:  # also of a page that is about to join again
-            faults = await self.stop_all()
-            whose = [fault.split(": ", 1) for fault in faults if ": " in fault]
-            return 200, JSON, json.dumps({"reply": "; ".join(faults) or "200 OK", "faults": whose})
+            return 200, JSON, json.dumps(told_of_stop(await self.stop_all()))
         if path == "/stop" and len(numbers) == 2:
-            reply = await caller.stop(*numbers)
+            refused = await caller.stop(*numbers)
         elif not page:
             return 404, TEXT, "no such page\n"
         elif path == "/command":
-            reply = await page.ask(body, seen)
+            refused = await page.ask(body, seen)
         elif path == "/function" and len(numbers) == 4:
-            reply = await page.switch(*numbers)
+            refused = await page.switch(*numbers)
         elif path == "/alive":
-            reply = "200 OK"
+            refused = None
         else:
             return 404, TEXT, "no such page\n"
-        return 200, JSON, json.dumps({"reply": reply, "session": caller.session and caller.session.id})
+        return 200, JSON, json.dumps(outcome(refused) | {"session": caller.session and caller.session.id})
 
-    async def stop_all(self) -> list[str]:
+    async def stop_all(self) -> list[Fault]:
         """Stops all locomotives; returns what could not be stopped. Pages are told as soon as the stop is counted."""
         holders = {page.session.id: page.session for page in self.pages.values() if page.session and page.session.id}
         stopping = asyncio.create_task(stop_all(self.mirror, holders))
@@ -231,7 +236,7 @@ class Web:
         self.pages[key] = page
         peer = writer.get_extra_info("peername")[0]
         why = "gone"
-        for other in [other for other in self.pages.values() if browser and other.browser == browser][:-AT_ONCE]:
+        for other in [other for other in self.pages.values() if browser and other.browser == browser][:-PAGES_OF_ONE]:
             other.tell(event("elsewhere", None))
         say(f"page {peer}: joined, {len(self.pages)} are open")
         try:
@@ -289,7 +294,7 @@ def main() -> None:
     words.add_argument("--word", help="what a page is asked for; with --bind one that stays if none is given")
     words.add_argument("--names", metavar="FILE", help="names of devices")
     words.add_argument("--plan", metavar="FILE", help="names, labels of functions, and a track plan with its routes")
-    words.add_argument("--silence", type=float, default=10.0, metavar="SECONDS",
+    words.add_argument("--silence", type=float, default=PAGE_SILENCE, metavar="SECONDS",
                        help="of a page until it counts as gone (%(default)s)")
     run(begin(words.parse_args()))
 

@@ -9,19 +9,24 @@ Phones find this program by themselves if python3-zeroconf is installed.
 """
 import argparse
 import asyncio
+from collections.abc import Coroutine
 
 from srcp_bridges.program import BUS, arguments, run
 
-from srcp_bridges.announce import announce
-from srcp_bridges.phone import Phone
-from srcp_bridges.phone_layout import Layout
-from srcp_bridges.places import add_arguments, listen
+from srcp_bridges.limits import LONGEST_OF_PHONE
+from srcp_bridges.page.announce import announce
+from srcp_bridges.page.phone import Phone
+from srcp_bridges.page.phone_layout import Layout
+from srcp_bridges.page.places import add_arguments, listen
 
 
 async def serve(asked: argparse.Namespace) -> None:
     """Serves phones for ever."""
     layout = Layout(asked)
-    async with listen(lambda *ends: Phone(layout, *ends).serve(), asked.bind, asked.listen, limit=4096) as server:
+    def serve_one(reader: asyncio.StreamReader, writer: asyncio.StreamWriter) -> Coroutine[object, object, None]:
+        return Phone(layout, reader, writer).serve()
+
+    async with listen(serve_one, asked.bind, asked.listen, LONGEST_OF_PHONE) as server:
         announcing = asyncio.create_task(announce("_withrottle._tcp", server))  # ended with this program's other tasks
         await asyncio.gather(layout.mirror.run(), layout.look_for_bus())
         announcing.cancel()

@@ -13,8 +13,9 @@ import argparse
 import asyncio
 from collections import defaultdict, deque
 
+from srcp_bridges.limits import LEFT_STANDING, OUTPUT_ON, STRAY
 from srcp_bridges.program import run, say
-from srcp_bridges.rows import STOP_ALL
+from srcp_bridges.srcp.rows import STOP_ALL
 from srcp_bridges.stations import datasets
 from srcp_bridges.stations.awaited import Part, Value
 from srcp_bridges.stations.confirmed import Confirmed
@@ -29,8 +30,6 @@ from srcp_bridges.stations.station import words_of_driver
 from srcp_bridges.stations.thrown import Thrown
 
 PORT = 21105
-PULSE = 0.1  # seconds for which a turnout's output is on
-STRAY = 2.0  # seconds for which a datagram may be on its way
 
 
 class Z21(Confirmed):
@@ -45,20 +44,22 @@ class Z21(Confirmed):
     ALIVE = dataset(datasets.GET_FLAGS) + ASK_STATUS + SENSORS
     STOP_ALL = xbus(0x80)
     PROGRAMS_BESIDE = False  # its track is off while it programs
+    TOPS = tuple(datasets.FORMATS)
+    AT_FIRST: Value | None = (-1, None)  # it may hold a speed of before
 
     def __init__(self, asked: argparse.Namespace):
         super().__init__(asked)
         self.where = network_place(asked.station, "neither HOST nor HOST:PORT", PORT)
-        self.track.tops = tuple(datasets.FORMATS)
-        self.track.at_first = -1, None  # it may hold a speed of before
         self.asked_code = False
         self.thrown = Thrown(self.bus)
         self.pulses: dict[int, int] = {}  # turnouts of which an output is to go off, and that output
         self.on: set[int] = set()  # turnouts of which an output is on: what is reported of one says that it is off
         self.looks = 0
+        self.left: list[bytes] = []  # what the last words have of each locomotive
         self.drives: defaultdict[Part, deque] = defaultdict(deque)  # what each cab that drives was told, and when
 
     async def connect(self) -> Datagrams:
+        self.left = []
         return await Datagrams.open(self.where)
 
     # ---- what it is told
@@ -99,6 +100,7 @@ class Z21(Confirmed):
         """Has outputs go off, and asks how one locomotive after the other drives, and one turnout after the other lies:
         a hand may have driven it, or thrown it."""
         self.thrown.look()
+        self.leave_stands()
         self.looks += 1
         turnouts = sorted(part[1] for part in self.track.told if part[0] == "turnout")
         for address in {*self.thrown.seen, *turnouts[self.looks % (len(turnouts) or 1):][:1]} - self.on:
@@ -110,6 +112,19 @@ class Z21(Confirmed):
             self.line.write(dataset(datasets.GET_CODE))
         if known := sorted(self.track.known):
             self.line.write(datasets.ask_locomotive(known[self.looks % len(known)]))
+
+    def unlocked(self, address: int) -> None:
+        self.thrown.unlocked(address)
+
+    def leave_stands(self) -> None:
+        """Has the last words tell each locomotive to stand. The station keeps speeds while its power is off, and a
+        driver that comes then does not know of what is removed meanwhile."""
+        known = sorted(sorted(self.track.known, key=self.track.speed)[-LEFT_STANDING:])
+        ways = [(address, self.bus.mirror.way(self.bus.number, address)) for address in known]
+        stands = [datasets.drive(address, 0, way, self.track.top_of(address)) for address, way in ways]
+        if stands != self.left:
+            self.left = stands
+            self.last_words.leave(self.line.number(), b"".join([self.STOP_ALL, self.encode(POWER, 0), *stands]))
 
     async def leave(self) -> None:
         await super().leave()
@@ -188,7 +203,7 @@ class Z21(Confirmed):
             self.on.discard(address)
         part = "turnout", address
         if self.confirm(part, port):
-            asyncio.get_running_loop().call_later(PULSE, self.pulses.setdefault, address, port)
+            asyncio.get_running_loop().call_later(OUTPUT_ON, self.pulses.setdefault, address, port)
         elif part not in self.awaited.parts and self.has_heard(part, port):
             self.thrown.report(address, port)
 

@@ -1,4 +1,5 @@
-"""What the programs of bridges/ share: sessions at the server, a mirror of its registry, stopping, and the page."""
+"""What the programs of bridges/ share, in four packages: `srcp`, `stations`, `page` and `plan`. Beside these: how a
+program begins and ends, its limits, its release, what it tells of itself, and stations without hardware."""
 import sys
 
 # Each program can be read by Python 3.9, so that it comes this far.

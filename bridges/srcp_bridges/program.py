@@ -9,6 +9,7 @@ import tomllib
 from collections.abc import Callable, Coroutine
 from typing import NoReturn, TextIO
 
+from srcp_bridges.limits import GREATEST_BUS
 from srcp_bridges.release import release
 
 said: dict[str, str] = {}
@@ -79,7 +80,7 @@ def number(least: int, most: int) -> Callable[[str], int]:
 
 
 PORT = number(1, 65535)
-BUS = number(1, 250)
+BUS = number(1, GREATEST_BUS)
 
 
 class Arguments(argparse.ArgumentParser):

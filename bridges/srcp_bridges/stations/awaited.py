@@ -4,9 +4,10 @@ No clock and no line is asked for here: who calls tells the moment, and tells th
 """
 from typing import Any
 
+from srcp_bridges.limits import SILENT
+
 Part = tuple  # ("power",), ("cab", 3), ("function", 3, 0), ("turnout", 5)
 Value = Any  # of a cab its speed and direction, of another part a number
-SILENT = 2.0  # seconds after which it is told that the station does not confirm
 
 
 class Awaited:

@@ -1,43 +1,51 @@
 """A bus of the server, and the track that it stands for."""
 import argparse
 import asyncio
-from collections.abc import Callable, Mapping
+from collections.abc import Mapping
 from functools import partial
+from typing import NamedTuple
 
+from srcp_bridges.limits import COLLECTED, FOLLOWS, SILENT_NAMED
 from srcp_bridges.program import say
-from srcp_bridges.rows import (ALL_STOOD, CONFIRMED, EMERGENCY_STOP, NO_DRIVER, NO_STATION, STOP_ALL, THROWN,
-                               UNCONFIRMED, Accessory, Change, Drive, Locomotive, Power, switches)
-from srcp_bridges.srcp import Mirror
+from srcp_bridges.srcp.mirrors import Mirror
+from srcp_bridges.srcp.rows import (ALL_STOOD, CONFIRMED, EMERGENCY_STOP, NO_DRIVER, NO_STATION, STOP_ALL, THROWN,
+                                    UNCONFIRMED, Accessory, Change, Drive, Locomotive, Power, switches)
 from srcp_bridges.state import driven
 from srcp_bridges.stations.holds import Holds
 from srcp_bridges.stations.registry import POWER, Orders
-from srcp_bridges.stations.track import Track
+from srcp_bridges.stations.track import Hooks, Track
 
-TOGETHER = 0.5  # seconds for which those are collected that cannot be driven
-FOLLOWS = 0.5  # seconds after a STOP ALL within which the rows of locomotives follow
-MOST = 9  # locomotives that a text of power has room for
+LEFT_OUT = {"bus": "not on bus {}", "protocol": "protocol {}", "slots": "the station has {} slots"}
+
+
+class LeftOut(NamedTuple):
+    """Why a device is not driven: the `bus` that alone is driven, the `protocol` of its decoder, or how many `slots`
+    the station has, all of which were taken. As a text it is what people are told."""
+    by: str
+    value: int | str | None
+
+    def __str__(self) -> str:
+        return LEFT_OUT[self.by].format(self.value)
 
 
 class Bus:
     """Takes in the rows of a bus: marks what differs on its track, and holds what moves after a loss.
 
-    `stop_at_once` is called as a STOP ALL comes. `stopping`: it is still to be confirmed. `silent` has the locomotives
-    that do not confirm what they are told.
+    `stopping`: a STOP ALL is still to be confirmed. `silent` has the locomotives that do not confirm what they are
+    told.
     """
 
-    def __init__(self, asked: argparse.Namespace, names: Mapping[str, str], stop_at_once: Callable[[], None]):
+    def __init__(self, asked: argparse.Namespace, names: Mapping[str, str], hooks: Hooks):
         self.number = asked.bus
         self.patience = asked.patience
         self.names = names
-        self.stop_at_once = stop_at_once
+        self.hooks = hooks
         self.stopping = False
         self.silent: frozenset[int] = frozenset()
         self.mirror = Mirror(asked, self.take, self.join, self.leave, keeps_place=True)
         self.orders = Orders(self.mirror)
-        self.holds = Holds(self.number, self.mirror, self.orders)
-        self.track = Track(self.number, self.mirror, self.holds, asked.turnout_pace, self.full)
-        self.holds.changed = self.track.mark
-        self.unlocked: Callable[[int], None] = lambda address: None  # nobody has a turnout locked any more
+        self.holds = Holds(self.number, self.mirror, self.orders, lambda part: self.track.mark(part))
+        self.track = Track(self.number, self.mirror, self.holds, asked.turnout_pace, self.full, hooks)
         self.elsewhere: set[int] = set()  # other buses, which drivers of this machine drive
         self.told_of: set[str] = set()  # devices that cannot be driven
         self.untold: list[str] = []
@@ -56,7 +64,7 @@ class Bus:
         if group == "GA" and part != "lock":
             self.track.mark(("turnout", address))
         elif group == "GA" and not change.row:
-            self.unlocked(address)
+            self.hooks.unlocked(address)
         elif group == "POWER":
             if change.row:
                 self.power(change)
@@ -64,7 +72,7 @@ class Bus:
         elif group == "GL" and part == "does" and change.row:
             self.locomotive(address, change)
         elif group == "GL" and part != "lock":
-            if not change.row and self.track.at_first:  # a hand may have it drive, and its report be lost
+            if not change.row and self.hooks.at_first:  # a hand may have it drive, and its report be lost
                 self.track.forgets(("cab", address))
             self.gone(address)
 
@@ -89,7 +97,7 @@ class Bus:
     def stop_all(self, row: Power) -> None:
         """Has all stand at once, until a command that is newer than that row."""
         self.stopping = True
-        self.stop_at_once()
+        self.hooks.stop_at_once()
         self.holds.stop_all(row.stamp)
         if not self.holds.station and not row.on:
             self.holds.set_power(NO_STATION)
@@ -105,7 +113,7 @@ class Bus:
         """Tells every display which locomotives do not confirm what they are told, and when they do again."""
         if silent == self.silent:
             return
-        self.silent, addresses = silent, " ".join(map(str, sorted(silent)[:MOST]))
+        self.silent, addresses = silent, " ".join(map(str, sorted(silent)[:SILENT_NAMED]))
         say(f"the station does not confirm: {addresses}" if silent else "the station confirms again")
         if silent or not self.stopping:
             self.tell_power(f"{UNCONFIRMED} {addresses}" if silent else CONFIRMED)
@@ -159,15 +167,15 @@ class Bus:
         if why := self.fault_of(bus, group, address, row):
             self.leave_out(f"{bus} {group} {address}", why)
 
-    def fault_of(self, bus: int, group: str, address: int, row: Locomotive | Accessory) -> str | None:
+    def fault_of(self, bus: int, group: str, address: int, row: Locomotive | Accessory) -> LeftOut | None:
         """Returns why a device is not driven, or None."""
         if bus != self.number:
-            return None if bus in self.elsewhere else f"not on bus {self.number}"
+            return None if bus in self.elsewhere else LeftOut("bus", self.number)
         if row.protocol not in "NP":
-            return f"protocol {row.protocol}"
-        return f"the station has {self.track.slots} slots" if group == "GL" and address in self.slotless else None
+            return LeftOut("protocol", row.protocol)
+        return LeftOut("slots", self.track.slots) if group == "GL" and address in self.slotless else None
 
-    def left_out(self) -> dict[str, str]:
+    def left_out(self) -> dict[str, LeftOut]:
         """Returns why devices are not driven, by their names."""
         self.slotless -= self.track.known
         self.elsewhere = driven(self.mirror.server[1])
@@ -186,12 +194,12 @@ class Bus:
         if row.v:
             self.holds.hold(("cab", address), row, "")
 
-    def leave_out(self, name: str, why: str) -> None:
+    def leave_out(self, name: str, why: LeftOut) -> None:
         """Tells of a device that is not driven, once; those of one moment together."""
         if name in self.told_of:
             return
         if not self.untold:
-            asyncio.get_running_loop().call_later(TOGETHER, self.tell_left_out)
+            asyncio.get_running_loop().call_later(COLLECTED, self.tell_left_out)
         self.told_of.add(name)
         called = f" {self.names[name]}" if name in self.names else ""
         self.untold.append(f"{name}{called} ({why})")
@@ -230,7 +238,7 @@ class Bus:
     def stop_unseen(self) -> None:
         """Has those stand too whose rows say that they do, if the station keeps speeds while all stand: the report of a
         hand may be lost, and what it drives would start with the power."""
-        for address in sorted(self.addresses() - {part[-1] for part in self.holds.held} if self.track.at_first else ()):
+        for address in sorted(self.addresses() - {part[-1] for part in self.holds.held} if self.hooks.at_first else ()):
             self.track.forgets(("cab", address))
 
     def mark_held(self) -> None:

@@ -3,17 +3,13 @@ import argparse
 import asyncio
 from collections.abc import Coroutine
 
-from srcp_bridges.rows import FORWARD
+from srcp_bridges.limits import CONFIRMS, LEAVING, MOST_FUNCTIONS, PACE, SLEPT, TICK
+from srcp_bridges.srcp.rows import FORWARD
 from srcp_bridges.stations.awaited import Awaited, Part, Value
 from srcp_bridges.stations.hands import OFF
 from srcp_bridges.stations.registry import POWER
-from srcp_bridges.stations.station import PACE, Station
-from srcp_bridges.stations.track import DRIVING, FUNCTIONS, URGENT
-
-CONFIRMS = 0.25  # seconds within which the station confirms what it was told
-TICK = 0.1  # seconds between two looks at what is not confirmed
-SLEPT = 1.0  # seconds between two looks if this program slept
-LEAVING = 2.0  # seconds, at most, until all stand at the end
+from srcp_bridges.stations.station import Station
+from srcp_bridges.stations.track import DRIVING, URGENT
 
 
 class Confirmed(Station):
@@ -28,7 +24,6 @@ class Confirmed(Station):
     def __init__(self, asked: argparse.Namespace):
         super().__init__(asked)
         self.awaited = Awaited(CONFIRMS)
-        self.track.awaits = self.awaits
         self.sensed: dict[int, int] = {}
 
     def look(self) -> None:
@@ -87,7 +82,7 @@ class Confirmed(Station):
             self.track.told[part] = drives  # it has made the stop of all, and need not be told it by itself
             self.track.mark(part)
         self.confirm(part, drives)
-        for number in range(FUNCTIONS):
+        for number in range(MOST_FUNCTIONS):
             self.confirm(("function", address, number), functions >> number & 1)
 
     def greeted(self, message: str) -> None:

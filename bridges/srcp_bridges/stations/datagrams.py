@@ -2,9 +2,8 @@
 import asyncio
 from typing import cast
 
+from srcp_bridges.limits import UNREAD
 from srcp_bridges.stations.line import Place
-
-UNREAD = 1000  # datagrams that wait to be read; further ones are lost, as any datagram may be
 
 
 class Datagrams(asyncio.DatagramProtocol):

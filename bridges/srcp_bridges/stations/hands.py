@@ -2,20 +2,21 @@
 import asyncio
 from functools import partial
 
-from srcp_bridges.driving import switch
+from srcp_bridges.limits import MOST_FUNCTIONS, TOGETHER
 from srcp_bridges.program import say
-from srcp_bridges.rows import FORWARD, STOP_ALL, Drive, Refused
+from srcp_bridges.srcp.driving import switch
+from srcp_bridges.srcp.replies import Code, Refused
+from srcp_bridges.srcp.rows import FORWARD, STOP_ALL, Drive
+from srcp_bridges.srcp.stop import send, stop_one
 from srcp_bridges.stations.awaited import Part, Value
 from srcp_bridges.stations.bus import Bus
 from srcp_bridges.stations.registry import POWER
 from srcp_bridges.stations.reports import Reports
-from srcp_bridges.stations.track import FUNCTIONS, Seen
-from srcp_bridges.stop import send, stop_one
+from srcp_bridges.stations.track import Seen
 
 # Why the power is off.
 OFF = "station says off"
 PROGRAMS = "programming"
-TOGETHER = 0.5  # seconds within which all make an emergency stop, if one button stopped them
 
 
 class Hands:
@@ -36,7 +37,6 @@ class Hands:
         self.stopped: dict[int, float] = {}  # when a hand had a locomotive make an emergency stop
         self.driven: dict[int, tuple[float, ...]] = {}
         self.forgotten: set[int] = set()
-        self.track.drive_on = self.locomotive
 
     def is_news(self, part: Part, value: Value, usual: Value = None) -> bool:
         """Returns whether a report is no echo; what the station was told last is then what it reports."""
@@ -86,14 +86,14 @@ class Hands:
         if await self.mirror.has((self.bus.number, "GL", address, False)):
             return
         self.track.making.add(address)
-        made = f"GL {address} N 1 {self.track.top_of(address)} {FUNCTIONS}"
+        made = f"GL {address} N 1 {self.track.top_of(address)} {MOST_FUNCTIONS}"
         try:
             await self.mirror.ask(f"INIT {self.bus.number} {made}")
             return
         except ConnectionError:
             pass  # it stands when the server is back
         except Refused as reply:
-            if address not in self.refused and not str(reply).startswith("414"):  # another made it, and has it locked
+            if address not in self.refused and reply.code != Code.LOCKED:  # another made it, and has it locked
                 say(f"STOP ALL does not reach locomotive {address}, which a hand throttle drives: "
                     f"the server says {reply}")
             self.refused.add(address)
@@ -126,5 +126,5 @@ class Hands:
     async def start(self, command: str, stops: int, losses: int) -> None:
         """Has a locomotive drive, if it was not stopped and nothing was lost since a hand had it drive."""
         if self.bus.holds.losses > losses:
-            raise Refused("something was lost meanwhile")
+            raise Refused(None, "something was lost meanwhile")
         await send(self.mirror.stops, self.mirror, command, stops)

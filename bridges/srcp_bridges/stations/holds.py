@@ -2,8 +2,8 @@
 from collections.abc import Callable, Iterator
 from functools import partial
 
-from srcp_bridges.rows import NO_DRIVER, NO_STATION, Drive, Power
-from srcp_bridges.srcp import Mirror
+from srcp_bridges.srcp.mirrors import Mirror
+from srcp_bridges.srcp.rows import NO_DRIVER, NO_STATION, Drive, Power
 from srcp_bridges.stations.awaited import Part
 from srcp_bridges.stations.registry import POWER, Orders
 
@@ -15,19 +15,20 @@ class Holds:
 
     `refused` has the rows that stayed as they were, since another session has the locomotive locked, or of before a
     STOP ALL. `halted` has the locomotives that are told an emergency stop for that: until a row that is newer.
+    `changed` is called with a part that rests in another way.
     """
 
     AWAY = "server was away"
     RESET = "station was reset"
 
-    def __init__(self, bus: int, mirror: Mirror, orders: Orders):
+    def __init__(self, bus: int, mirror: Mirror, orders: Orders, changed: Callable[[Part], None]):
         self.bus = bus
         self.mirror = mirror
         self.orders = orders
         self.held: set[Part] = set()
         self.refused: dict[Part, Moving | None] = {}
         self.halted: set[int] = set()
-        self.changed: Callable[[Part], None] = lambda part: None  # is told the part that rests in another way
+        self.changed = changed
         self.stopped = 0.0  # the stamp of the last STOP ALL
         self.why = self.AWAY
         self.station = False  # the station is there

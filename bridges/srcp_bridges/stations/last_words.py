@@ -20,7 +20,7 @@ BEAT = 0.5  # seconds between two signs of life
 MOMENT = 0.05  # seconds between two sayings
 REGISTRY = 3.0  # seconds that the server has to answer
 LINES = 4  # a welcome, and three replies
-LONGEST = 1000
+LONGEST = 1473  # bytes of a message: a datagram, and what it begins with
 WORDS, TAKEN_BACK, ALIVE = b"W", b"T", b"A"  # how messages begin
 
 

@@ -8,9 +8,9 @@ import stat
 import termios
 import tty
 
+from srcp_bridges.limits import UNSENT
 from srcp_bridges.program import CannotGoOn, Wrong
 
-UNSENT = 65536  # bytes that wait for a station that reads nothing; then its line is opened anew
 Place = tuple[str, int]  # host and port
 
 

@@ -6,12 +6,13 @@ import contextlib
 import os
 import re
 from typing import TYPE_CHECKING
+from srcp_bridges.limits import CV_TAKES
 from srcp_bridges.program import say
+from srcp_bridges.srcp.replies import Code
 from srcp_bridges.state import folder
 
 if TYPE_CHECKING:
     from srcp_bridges.stations.station import Station
-LIMIT = 15.0  # seconds that a station may take for a CV
 # What a station may say in place of a value.
 NOBODY = -1
 CANNOT_MEASURE = -2
@@ -60,21 +61,21 @@ class Programming:
     def refusal(self) -> str | None:
         """Returns why the station is told nothing at this moment, or None."""
         if not self.station.ready.is_set():
-            return "417 the station is away"
+            return f"{Code.TIMEOUT} the station is away"
         if not self.beside and (driving := self.station.track.driving()):
-            return f"413 locomotive {driving[0]} drives, and the station stops all to program"
+            return f"{Code.PROHIBITED} locomotive {driving[0]} drives, and the station stops all to program"
         return None
 
     async def carry_out(self, cv: int, value: int | None) -> str:
         """Has the station read a CV, or write a value into it; returns the reply."""
         self.asked, self.said = (cv, value), asyncio.get_running_loop().create_future()
         try:
-            async with asyncio.timeout(LIMIT):
+            async with asyncio.timeout(CV_TAKES):
                 return await self.tell(self.said, self.station.encode_cv(cv, value))
         except TimeoutError:
-            return "417 the station does not answer"
+            return f"{Code.TIMEOUT} the station does not answer"
         except OSError as fault:
-            return f"417 {fault}"
+            return f"{Code.TIMEOUT} {fault}"
         finally:
             self.said = None
 
@@ -89,7 +90,7 @@ class Programming:
                 told += 1
                 await asyncio.wait([said], timeout=self.repeats)
             result = said.result()
-            return f"416 {WHY[result]}" if result in WHY else f"200 {result}"
+            return f"{Code.NO_DATA} {WHY[result]}" if result in WHY else f"{Code.OK} {result}"
         finally:
             if self.repeats and told > 1:
                 self.doubtful = asyncio.get_running_loop().time() + 2 * self.repeats
@@ -99,10 +100,10 @@ class Programming:
     async def answer(self, line: str) -> str:
         """Returns the reply to a request."""
         if not (found := REQUEST.fullmatch(line)):
-            return "410 neither READ CV nor WRITE CV VALUE"
+            return f"{Code.UNKNOWN_COMMAND} neither READ CV nor WRITE CV VALUE"
         cv, value = int(found[1] or found[2]), None if found[3] is None else int(found[3])
         if not 1 <= cv <= 1024 or (value or 0) > 255:
-            return "412 a CV is 1 to 1024, and its value 0 to 255"
+            return f"{Code.WRONG_VALUE} a CV is 1 to 1024, and its value 0 to 255"
         async with self.turn:
             return await self.carry_out(cv, value)
 

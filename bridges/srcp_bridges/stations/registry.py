@@ -3,8 +3,8 @@ import asyncio
 from collections.abc import Awaitable, Callable
 
 from srcp_bridges.program import say
-from srcp_bridges.rows import Refused
-from srcp_bridges.srcp import Mirror
+from srcp_bridges.srcp.mirrors import Mirror
+from srcp_bridges.srcp.replies import Refused
 from srcp_bridges.stations.awaited import Part
 
 Act = Callable[[], Awaitable[object]]

@@ -2,8 +2,8 @@
 import asyncio
 from collections import defaultdict, deque
 
+from srcp_bridges.limits import LATE
 from srcp_bridges.stations.awaited import Part, Value
-LATE = 10.0  # seconds within which an echo comes: after less silence the line is opened anew
 REPORTED = "power", "cab", "function"
 
 

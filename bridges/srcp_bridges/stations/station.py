@@ -5,25 +5,20 @@ import contextlib
 import time
 from collections.abc import Coroutine
 
+from srcp_bridges.limits import (AGAIN, ANSWERS, ASK, PACE, SENSORS_WAITING, STATE_TOLD, TOP, TURNOUT_PACE,
+                                 UNANSWERED)
 from srcp_bridges.program import BUS, Arguments, arguments, names, say
-from srcp_bridges.rows import Refused
+from srcp_bridges.srcp.replies import Refused
 from srcp_bridges.state import SELF
 from srcp_bridges.stations.awaited import Ahead, Part, Value
 from srcp_bridges.stations.bus import Bus
 from srcp_bridges.stations.datagrams import Datagrams
 from srcp_bridges.stations.hands import Hands
+from srcp_bridges.stations.last_words import LastWords
 from srcp_bridges.stations.line import Line
 from srcp_bridges.stations.programming import Programming
-from srcp_bridges.stations.last_words import LastWords
 from srcp_bridges.stations.registry import POWER
-from srcp_bridges.stations.track import URGENT
-
-ASK = 1.0  # seconds between two questions to a silent station
-PACE = 0.002  # seconds between two commands
-AGAIN = 0.2  # seconds until a station is asked again whether it has read what it was told
-ANSWERS = 2.0  # seconds for which the first question may be answered again, if it was asked more than once
-UNANSWERED = 3  # questions to a station that is gone
-MOMENT = 1.0  # seconds until doctor.py can read what has changed
+from srcp_bridges.stations.track import URGENT, Hooks, Seen
 
 
 class Station:
@@ -43,15 +38,18 @@ class Station:
     REPEATS: float | None = None
     ROOM, MOST, RESERVE = 48, 27, 16  # as Ahead has them: an Arduino Mega has 64 bytes for what comes in
     TIMES = 5  # how often the last words are said, since some may be lost
+    TOPS: tuple[int, ...] = (TOP,)  # as Hooks has them
+    AT_FIRST: Value | None = None
 
     def __init__(self, asked: argparse.Namespace):
         self.name = asked.station
         self.silence = asked.silence
         self.again = asked.again
-        self.bus = Bus(asked, names(asked.names), self.stop_at_once)
+        hooks = Hooks(self.stop_at_once, self.unlocked, self.awaits, self.drive_on, self.TOPS, self.AT_FIRST)
+        self.bus = Bus(asked, names(asked.names), hooks)
         self.track = self.bus.track
         self.hands = Hands(self.bus)
-        self.sensors: asyncio.Queue[tuple[int, int]] = asyncio.Queue(1000)
+        self.sensors: asyncio.Queue[tuple[int, int]] = asyncio.Queue(SENSORS_WAITING)
         self.ready = asyncio.Event()
         self.answered = asyncio.Event()
         self.unanswered = 0
@@ -74,6 +72,19 @@ class Station:
 
     def encode_cv(self, cv: int, value: int | None) -> bytes:
         raise NotImplementedError
+
+    # ---- what the bus and its track call, beside `stop_at_once`
+
+    def unlocked(self, address: int) -> None:
+        """Nobody has a turnout locked any more."""
+
+    def awaits(self, part: Part) -> bool:
+        """Returns whether a part is told nothing else meanwhile."""
+        return False
+
+    def drive_on(self, address: int, speed: int, way: int, functions: int, seen: Seen) -> None:
+        """Takes again what was reported of a locomotive that was made."""
+        self.hands.locomotive(address, speed, way, functions, seen)
 
     # ---- what `take` calls
 
@@ -279,10 +290,13 @@ class Station:
     async def tell_of_itself(self) -> None:
         """Tells doctor.py how the station is, what is not driven, and what was told last of each locomotive."""
         while True:
+            left_out = self.bus.left_out()
             SELF.tell_station(bus=self.bus.number, name=self.name, here=self.ready.is_set(), slots=self.track.slots,
-                              taken=len(self.track.known), left_out=self.bus.left_out(), told=dict(self.hands.driven),
-                              forgotten=sorted(self.hands.forgotten), door=self.programming.path)
-            await asyncio.sleep(MOMENT)
+                              taken=len(self.track.known), left_out={name: str(why) for name, why in left_out.items()},
+                              left_out_by={name: {why.by: why.value} for name, why in left_out.items()},
+                              told=dict(self.hands.driven), forgotten=sorted(self.hands.forgotten),
+                              door=self.programming.path)
+            await asyncio.sleep(STATE_TOLD)
 
     async def run(self) -> None:
         """Drives until this program is ended. The registry then says that no station is driven."""
@@ -309,7 +323,7 @@ def words_of_driver(about: str | None) -> Arguments:
     words.add_argument("--silence", type=float, default=9.0, metavar="SECONDS", help="of a station: opened anew")
     words.add_argument("--asleep", type=float, default=5.0, metavar="SECONDS",
                        help="that this program sleeps until all stand (%(default)s)")
-    words.add_argument("--turnout-pace", type=float, default=3.0, metavar="NUMBER",
+    words.add_argument("--turnout-pace", type=float, default=TURNOUT_PACE, metavar="NUMBER",
                        help="of turnouts that are thrown in a second, at most (%(default)s)")
     words.add_argument("--names", metavar="FILE", help="names of devices, for what is told of them")
     return words

@@ -6,14 +6,12 @@ station was told is a hand's doing only if the station, asked again and again, s
 import asyncio
 from functools import partial
 from typing import Literal
+from srcp_bridges.limits import ANSWERED, PULSE, STAYS
 from srcp_bridges.program import say
-from srcp_bridges.rows import CONFIRMED, THROWN, UNCONFIRMED, Port
+from srcp_bridges.srcp.rows import CONFIRMED, THROWN, UNCONFIRMED, Port
 from srcp_bridges.stations.bus import Bus
 from srcp_bridges.stations.registry import POWER
 
-STAYS = 0.3  # seconds after which a report is no late one
-ANSWERED = 2.0  # seconds after a STOP ALL in which displays wait for its answer
-PULSE = 250  # milliseconds
 TOLD = ("thrown",)  # as a part, for orders
 POWER_ROW: tuple[Literal["POWER"], int, Literal["does"]] = "POWER", 0, "does"
 
@@ -29,7 +27,6 @@ class Thrown:
         self.locked: dict[int, int] = {}
         self.untold: dict[int, int] = {}
         self.stopping = -ANSWERED
-        bus.unlocked = self.unlocked
 
     def report(self, address: int, port: int) -> None:
         """Takes a report of a turnout of which nothing is awaited."""

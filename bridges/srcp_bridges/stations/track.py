@@ -6,20 +6,36 @@ value is told alone.
 """
 import asyncio
 from collections.abc import Callable
+from typing import NamedTuple
 
-from srcp_bridges.rows import EMERGENCY_STOP, FORWARD, Drive, Locomotive, position
-from srcp_bridges.srcp import Mirror
+from srcp_bridges.limits import MOST_FUNCTIONS
+from srcp_bridges.srcp.mirrors import Mirror
+from srcp_bridges.srcp.rows import EMERGENCY_STOP, FORWARD, Drive, Locomotive, position
 from srcp_bridges.stations.awaited import Part, Value
 from srcp_bridges.stations.holds import Holds
 from srcp_bridges.stations.registry import POWER
 
 URGENT, STOPPING, DRIVING, LATER, TURNOUTS = range(5)
-TOPS = 126,  # the numbers of steps in which a station is told speeds
-FUNCTIONS = 29  # of a locomotive, at most
 Known = tuple[Locomotive | None, Drive]
 Seen = tuple[int, int]  # the stops and losses that were counted as the station reported
 Report = tuple[int, int, int, Seen]  # of a locomotive: speed, direction, and a bit for each function
 NOBODY: Known = None, Drive(0, FORWARD, 0, 0, ())
+
+
+class Hooks(NamedTuple):
+    """What the driver of one kind of station gives, for what all kinds have in common.
+
+    `stop_at_once` is called as a STOP ALL comes, `unlocked` as nobody has a turnout locked any more. `awaits` returns
+    whether a part is told nothing else meanwhile. `drive_on` takes again what was reported of a locomotive that was
+    made. `tops` has the numbers of steps in which the station is told speeds. `at_first` is what a locomotive does of
+    which the station was told nothing, if the station keeps speeds.
+    """
+    stop_at_once: Callable[[], None]
+    unlocked: Callable[[int], None]
+    awaits: Callable[[Part], bool]
+    drive_on: Callable[[int, int, int, int, Seen], None]
+    tops: tuple[int, ...]
+    at_first: Value | None
 
 
 class Track:
@@ -28,12 +44,14 @@ class Track:
     `known` has the locomotives that have a slot at the station; `full` is called with one for which there is none left.
     """
 
-    def __init__(self, bus: int, mirror: Mirror, holds: Holds, turnout_pace: float, full: Callable[[int], None]):
+    def __init__(self, bus: int, mirror: Mirror, holds: Holds, turnout_pace: float, full: Callable[[int], None],
+                 hooks: Hooks):
         self.bus = bus
         self.mirror = mirror
         self.holds = holds
         self.turnout_pace = turnout_pace
         self.full = full
+        self.hooks = hooks
         self.told: dict[Part, Value] = {}
         self.waiting: list[dict[Part, Value]] = [{} for _ in range(5)]
         self.not_before = [0.0] * 5
@@ -41,13 +59,9 @@ class Track:
         self.known: set[int] = set()
         self.others: dict[int, Report] = {}  # what the station reports of locomotives that the registry has not
         self.making: set[int] = set()  # locomotives that this program makes, since a hand drives them
-        self.drive_on: Callable = lambda address, *report: None  # takes again what was reported of one that was made
         self.steps: dict[int, int] = {}  # the numbers of steps in which the station reports locomotives
         self.slots: int | None = None
         self.changed = asyncio.Event()
-        self.tops: tuple[int, ...] = TOPS
-        self.at_first: Value | None = None  # of a station that keeps speeds: what one does of which it was told nothing
-        self.awaits: Callable[[Part], bool] = lambda part: False  # whether a part is told nothing else meanwhile
 
     # ---- what is wanted: how urgent a part is, and its value, or None if any will do
 
@@ -62,7 +76,7 @@ class Track:
     def cab(self, address: int) -> tuple[int, Value]:
         """A locomotive's speed, -1 for an emergency stop, and direction. One that has not driven yet is not told."""
         made, drive = self.locomotive(address)
-        told, way = self.told.get(("cab", address), made and self.at_first), self.mirror.way(self.bus, address)
+        told, way = self.told.get(("cab", address), made and self.hooks.at_first), self.mirror.way(self.bus, address)
         if address in self.stops or drive.mode == EMERGENCY_STOP or address in self.holds.halted:
             return URGENT, told and (-1, way)
         if not drive.v or ("cab", address) in self.holds.held:
@@ -94,12 +108,12 @@ class Track:
 
     def top(self, made: Locomotive | None) -> int:
         """Returns the fastest step of a locomotive at the station."""
-        return next((top for top in self.tops if made and made.steps <= top), self.tops[-1])
+        return next((top for top in self.hooks.tops if made and made.steps <= top), self.hooks.tops[-1])
 
     def top_of(self, address: int) -> int:
         """Returns the fastest step of a locomotive: as the registry has it, else as the station reports it."""
         made, _ = self.locomotive(address)
-        return self.top(made) if made else self.steps.get(address, self.tops[-1])
+        return self.top(made) if made else self.steps.get(address, self.hooks.tops[-1])
 
     # ---- what differs
 
@@ -117,7 +131,7 @@ class Track:
             self.changed.set()
 
     def mark_locomotive(self, address: int) -> None:
-        functions = [("function", address, number) for number in range(FUNCTIONS)]
+        functions = [("function", address, number) for number in range(MOST_FUNCTIONS)]
         for part in [("cab", address), *functions, ("forget", address)]:
             self.mark(part)
 
@@ -127,7 +141,7 @@ class Track:
         report, is_ours = self.others.pop(address, None), address in self.making
         self.making.discard(address)
         if report and is_ours:
-            return self.drive_on(address, *report)
+            return self.hooks.drive_on(address, *report)
         if report and report[0] > 0:
             self.told["cab", address] = report[0], None
         self.mark_locomotive(address)
@@ -143,9 +157,9 @@ class Track:
     def begin_anew(self) -> None:
         """The station has forgotten all. How turnouts lie has not changed. One that keeps speeds may still have what is
         gone from the registry drive: that stands."""
-        driven = [part for part in self.told if part[0] == "cab"] if self.at_first else []
+        driven = [part for part in self.told if part[0] == "cab"] if self.hooks.at_first else []
         self.told = {part: value for part, value in self.told.items() if part[0] == "turnout"}
-        self.told |= dict.fromkeys(driven, self.at_first)
+        self.told |= dict.fromkeys(driven, self.hooks.at_first)
         self.known.clear()
         self.others.clear()
         self.stops.clear()
@@ -157,11 +171,11 @@ class Track:
         """Returns the most urgent part that is to be told at this moment, and its value, or None."""
         now = asyncio.get_running_loop().time()
         for waiting, begin in zip(self.waiting, self.not_before):
-            while now >= begin and (part := next((part for part in waiting if not self.awaits(part)), None)):
+            while now >= begin and (part := next((part for part in waiting if not self.hooks.awaits(part)), None)):
                 if self.has_slot(part):
                     return part, waiting.pop(part)
                 idle = [address for address in self.known if not self.is_busy(address)]
-                if ready := [address for address in idle if not self.awaits(("forget", address))]:
+                if ready := [address for address in idle if not self.hooks.awaits(("forget", address))]:
                     return ("forget", ready[0]), 1
                 if idle:
                     break  # its slot is free once it has confirmed that it rests
@@ -176,7 +190,7 @@ class Track:
 
     def is_busy(self, address: int) -> bool:
         """Returns whether a locomotive drives, has a function on, or is about to: it needs its slot."""
-        functions = [("function", address, number) for number in range(FUNCTIONS)]
+        functions = [("function", address, number) for number in range(MOST_FUNCTIONS)]
         about_to = any(part in waiting for waiting in self.waiting for part in [("cab", address), *functions])
         return about_to or self.speed(address) > 0 or any(self.told.get(part) for part in functions)
 
