@@ -15,7 +15,7 @@ from pathlib import Path
 
 TOP = Path(__file__).resolve().parent.parent
 PAGES = ("docs/protocol.md", "docs/configuration.md", "docs/install.md", "docs/replay.md", "docs/plan.md",
-         "bridges/README.md")
+         *sorted(str(page.relative_to(TOP)) for page in TOP.glob("bridges/*.md")))
 LINK = re.compile(r"!?\[([^\]]*)\]\((?!http)([^)#]*)(#[^)]*)?\)")
 
 

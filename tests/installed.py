@@ -77,7 +77,8 @@ def pages_of_the_package_have_no_dead_link(program):
         named = {page.parent.name + "/" + page.name for page in pages}
         text = "".join(page.read_text() for page in pages)
         safe = "## Safety" in text and "## What stops trains" in text
-    return None if safe and {"bridges/README.md", "docs/protocol.md"} <= named else f"pages {named}, safety: {safe}"
+    wanted = {f"bridges/{page.name}" for page in TOP.glob("bridges/*.md")} | {"docs/protocol.md"}
+    return None if safe and wanted <= named and len(wanted) > 6 else f"pages {named}, safety: {safe}"
 
 
 def values(text, key):

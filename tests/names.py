@@ -16,7 +16,7 @@ OTHERS = {"ArrayVec", "BTreeMap", "Drop", "IfErr", "IfSome", "Net", "OnErr", "SO
           "max_queued_messages", "nc", "push_back", "requires", "result", "return", "ssh", "try_push_back",
           "SHA256SUMS"}
 # A single word of these may be of the protocol or of a system. It is a name of code only if it has the form of one.
-FOR_USERS = {TOP / "README.md", TOP / "bridges" / "README.md", *(
+FOR_USERS = {TOP / "README.md", *TOP.glob("bridges/*.md"), *(
     TOP / "docs" / f"{name}.md" for name in ("protocol", "configuration", "install", "replay", "plan"))}
 # This tells of names that were.
 OF_THE_PAST = TOP / "CHANGELOG.md"

@@ -187,7 +187,7 @@ def numbers_of_the_commands(_: str) -> str | None:
 def texts_of_the_power(_: str) -> str | None:
     """The protocol's page has the texts that the programs of bridges/ give the power, and no others."""
     page = (TOP / "docs" / "protocol.md").read_text().partition("| Text | What it says |")[2].partition("\n\n")[0]
-    code = (TOP / "bridges" / "srcp_bridges" / "rows.py").read_text()
+    code = (TOP / "bridges" / "srcp_bridges" / "srcp" / "rows.py").read_text()
     names = dict(re.findall(r'^(\w+) = "([^"]+)"', code, re.M))
     of_drivers = re.findall(r'(\w+)|"([^"]+)"', re.findall(r"^OF_DRIVERS = \((.*?)\)$", code, re.M | re.S)[0])
     texts = {names[name] if name else text for name, text in of_drivers} | {names["STOP_ALL"]}

@@ -139,7 +139,7 @@ def systems_of_the_pages(_: str) -> str | None:
 def units_that_systemd_ran(_: str) -> str | None:
     """The page of the bridges names those that packaging/try_in_debian starts."""
     units = re.findall(r"^UNITS = (.*)$", (TOP / "packaging" / "try_in_debian").read_text(), re.M)[0]
-    page = " ".join((TOP / "bridges" / "README.md").read_text().split())
+    page = " ".join((TOP / "bridges" / "tried.md").read_text().split())
     told = re.findall(r"Of the units, systemd ran ([^.]*), by \[packaging/try_in_debian\]", page)
     named, started = set(re.findall(r"`(\w+)`", told[0])), set(re.findall(r"srcp_bridge@(\w+)", units))
     return None if named == started else f"the page names {named}, and {started} are started"

@@ -16,7 +16,8 @@ from interlocking import Interlocking  # noqa: E402
 
 PLANS = 250
 LISTS = 20  # of events, of each plan
-EVENTS = 40  # of each list
+EVENTS = 80  # of each list
+TRAINS = 500  # so many at least give their routes back by sections, over all lists
 OWN = 9  # the bus of the routes
 TURNOUTS = [(bus, address) for bus in (1, 2) for address in range(1, 6)]
 SIGNALS = [(bus, address) for bus in (1, 2) for address in range(11, 14)]
@@ -37,15 +38,62 @@ def plan_of(draw):
         lines += ["[[route]]", f"number = {number}", f"turnouts = {turnouts}", f"blocks = {blocks}"]
         if draw.random() < 0.7:
             lines.append(f"signal = {[*draw.choice(SIGNALS), draw.randint(3, 7), draw.randint(0, 2)]}")
-        if draw.random() < 0.7:
+        if draw.random() < 0.5:
             lines.append(f"frees = {list(draw.choice(SENSORS))}")
+        if draw.random() < 0.8:
+            count = draw.randint(0, 4)
+            sections = draw.sample(SENSORS, count) if draw.random() < 0.9 else draw.choices(SENSORS, k=count)
+            lines.append(f"sections = {[list(each) for each in sections]}")
     return "\n".join(lines) + "\n"
 
 
-def event_of(draw, model):
-    """A line that may come next: most often the reply that is waited for."""
+def drive(draw, sections):
+    """Yields what sensors tell as a train comes into these sections and leaves them: most often it goes on, and may be
+    in several of them, or in a gap between two. Else it goes back. Or a sensor tells once more what it is, flickers, or
+    is not known for a while: then None stands for its value."""
+    tail = head = 0  # it is in sections[tail:head]
+    while tail < len(sections):
+        what = draw.random()
+        if what < 0.2 and head:
+            place = draw.randrange(head)
+            value = int(place >= tail)
+            yield from [(sections[place], each) for each in draw.choice(([], [1 - value], [None]))]
+            yield sections[place], value
+        elif what < 0.3 and head > tail:
+            head -= 1
+            yield sections[head], 0
+        elif what < 0.4 and tail:
+            tail -= 1
+            yield sections[tail], 1
+        elif head < len(sections) and (head == tail or draw.random() < 0.6):
+            yield sections[head], 1
+            head += 1
+        else:
+            yield sections[tail], 0
+            tail += 1
+
+
+def driven(draw, model, drives):
+    """What a train tells next: most often one that is followed, and seldom another. `drives` has those of before, by
+    the numbers of their routes."""
+    followed = [route for route in model.routes if route.train]
+    others = [route for route in model.routes if route.sections and not route.train]
+    if not (routes := followed if draw.random() < 0.8 else others if draw.random() < 0.5 else []):
+        return None
+    route = draw.choice(routes)
+    if not (told := next(drives.get(route.number, iter(())), None)):
+        drives[route.number] = drive(draw, route.sections)
+        told = next(drives[route.number])
+    (bus, sensor), value = told
+    return f"102 INFO {bus} FB {sensor}" if value is None else f"100 INFO {bus} FB {sensor} {value}"
+
+
+def event_of(draw, model, drives):
+    """A line that may come next: most often the reply that is waited for, or what a train tells."""
     if model.waits and draw.random() < 0.6 or draw.random() < 0.03:
         return draw.choice(REFUSALS) if draw.random() < 0.15 else "200 OK"
+    if told := driven(draw, model, drives):
+        return told
     what, route = draw.random(), draw.choice(model.routes).number
     if what < 0.45:
         return f"100 INFO {OWN} GA {route} 1 1"
@@ -60,12 +108,13 @@ def event_of(draw, model):
 def list_of(draw, model):
     """Yields the lines of a list, each with the order that follows in the model, or None. A session begins first, which
     most often knows that all sensors are 0."""
+    drives = {}
     known = ["100 INFO {} FB {} 0".format(*each) for each in SENSORS if draw.random() < 0.9]
-    before = [event_of(draw, model) for _ in range(draw.choice((0, 3)))]
+    before = [event_of(draw, model, drives) for _ in range(draw.choice((0, 3)))]
     for line in [*before, f"200 OK GO {draw.randint(1, 99)}", *known]:
         yield f"0.000 {line}", model.take(f"0.000 {line}")
     for _ in range(EVENTS):
-        line = f"{draw.randint(0, 10 ** 12)}.{draw.randint(0, 999):03} {event_of(draw, model)}"
+        line = f"{draw.randint(0, 10 ** 12)}.{draw.randint(0, 999):03} {event_of(draw, model, drives)}"
         yield line, model.take(line)
 
 
@@ -77,11 +126,8 @@ def plan_file(text):
         yield file.name
 
 
-def difference(program, draw):
-    """Returns at which line of its lists a plan has other orders than in the model, or None."""
-    text = plan_of(draw)
-    model = Interlocking(tomllib.loads(text))
-    lines = [pair for _ in range(LISTS) for pair in list_of(draw, model)]
+def difference(program, text, lines):
+    """Returns at which of these lines a plan has other orders than in the model, or None."""
     with plan_file(text) as path:
         done = subprocess.run([program, "interlock", "--plan", path], input="".join(f"{line}\n" for line, _ in lines),
                               capture_output=True, text=True, timeout=SECONDS)
@@ -96,9 +142,16 @@ def difference(program, draw):
 
 
 def routes_as_in_the_model(program):
-    """5,000 lists of events at random, over plans at random: asks, give-backs, sensors, refusals and lost sessions."""
-    draw = random.Random(57)
-    return next(filter(None, (difference(program, draw) for _ in range(PLANS))), None)
+    """5,000 lists of events at random, over plans at random: asks, give-backs, trains, sensors, refusals and lost
+    sessions."""
+    draw, trains = random.Random(57), 0
+    for _ in range(PLANS):
+        text = plan_of(draw)
+        model = Interlocking(tomllib.loads(text))
+        if fault := difference(program, text, [pair for _ in range(LISTS) for pair in list_of(draw, model)]):
+            return fault
+        trains += model.trains
+    return None if trains >= TRAINS else f"{trains} trains have passed the sections of their routes, want {TRAINS}"
 
 
 def orders_come_at_once(program):
@@ -138,8 +191,8 @@ ORDERS_1 = ["SET 1 LOCK GA 1 0", "SET 1 GA 1 0 1 250", "SET 2 GA 1 2 1 250", "SE
 ENDS_1 = ["SET 2 GA 1 0 1 250", "SET 9 FB 1 0", "TERM 1 LOCK GA 1"]
 
 
-def ordered(program, lines):
-    with plan_file(PLAN) as path:
+def ordered(program, lines, plan=PLAN):
+    with plan_file(plan) as path:
         done = subprocess.run([program, "interlock", "--plan", path], text=True, capture_output=True, timeout=SECONDS,
                               input="".join(f"1.000 {line}\n" for line in lines))
     return done.stdout.splitlines()
@@ -178,5 +231,56 @@ def no_order_before_a_session(program):
     return None if got == ORDERS else f"then {got}"
 
 
+PLAN_OF_SECTIONS = """bus = 9
+[[route]]
+number = 1
+turnouts = [[1, 1, 0]]
+signal = [2, 1, 2, 0]
+sections = [[1, 5], [1, 6], [1, 7]]
+"""
+BEGINS, SETS, GIVES = ["200 OK GO 2", *["200 OK"] * 2], SETS_1, "100 INFO 9 GA 1 0 1"
+# What the sensors of its sections tell: 1 by +, 0 by -, and that they are not known by ?.
+GIVES_BACK = (
+    "5+ 6+ 5- 7+ 6-", "5+ 6+ 7+ 5- 6-",  # a train that is shorter than two sections, and one that is longer
+    "5+ 5- 5+ 6+ 6- 6+ 7+ 7- 5- 7+ 6-",  # each sensor flickers
+    "5+ 6+ 5- 5+ 6- 6+ 5- 7+ 7- 7+ 6-",  # it goes back out of each section, and comes again
+    "7+ 6+ 5+ 7- 6- 5- 5+ 6+ 5- 7+ 6-",  # behind one of the other direction
+    "5+ 5- 6+ 6- 7+ 7- 5+ 6+ 5- 7+ 6-")  # behind one that is shorter than the gaps between the sections
+STAYS = (
+    "5+ 5- 5+ 5-", "6+ 6- 6+ 6-", "7+ 7- 7+ 7-",  # one sensor alone
+    "5+ 5- 6+ 6- 7+ 7- 5+ 5- 6+ 6- 7+ 7-",  # there are gaps between the sections
+    "7+ 6+ 7- 5+ 6- 5-", "6+ 5+ 5- 7+ 6-",  # it comes from the other side, or by the second section
+    "5+ 7+ 6+ 5- 7- 6-", "5+ 6+ 7+ 6- 5- 7-",  # in another order
+    "5+ 6+ 5- 7+ 7- 6-", "5+ 6+ 5- 7+ 7? 6-", "5+ 6+ 6- 5- 7+ 6+ 6-")  # the next one is not 1 as it leaves one
+
+
+def told(words):
+    """The lines of what sensors tell."""
+    values = {"+": "100 INFO 1 FB {} 1", "-": "100 INFO 1 FB {} 0", "?": "102 INFO 1 FB {}"}
+    return [values[word[-1]].format(word[:-1]) for word in words.split()]
+
+
+def trains_over_sections(program):
+    """A train gives its route back at the sensor by which it leaves the last section but one, and not before. It is
+    followed from the command that shows go until the route is given back."""
+    begins, sets, goes = [*BEGINS, "100 INFO 9 GA 1 1 1"], ["200 OK"] * 4, [*BEGINS, *SETS]
+    *before, last = told(GIVES_BACK[0])
+    again = [GIVES, *["200 OK"] * 3]
+    freed = [[*goes, *told(words)] for words in GIVES_BACK]
+    freed += [[*begins, *sets[:2], *before[:at], *sets[2:], *before[at:], last] for at in range(5)]
+    freed += [[*goes, *again, *SETS, *before, last]]
+    stay = [[*goes, *told(words)] for words in STAYS]
+    stay += [[*begins, *sets[:1], before[0], *sets[1:], *before[1:], last]]  # before the signal shows go
+    stay += [[*goes, *before[:at], *again, *SETS, *before[at:], last] for at in range(1, 5)]
+    stay += [[*goes, *before[:at], *BEGINS, *SETS, *before[at:], last] for at in range(1, 5)]
+    for lines in [each[:-1] for each in freed] + stay:
+        if (got := ordered(program, lines, PLAN_OF_SECTIONS))[-1:] != ORDERS_1[-1:]:
+            return f"{lines}: {got}"
+    for lines in freed:
+        if (got := ordered(program, lines, PLAN_OF_SECTIONS))[-2:] != [ORDERS_1[-1], ENDS_1[0]]:
+            return f"{lines}: {got}, want {ENDS_1[0]}"
+    return None
+
+
 ROUTE_CASES = (routes_as_in_the_model, orders_come_at_once, give_backs_are_carried_out,
-               a_first_word_of_a_sensor_is_no_fall, no_order_before_a_session)
+               a_first_word_of_a_sensor_is_no_fall, no_order_before_a_session, trains_over_sections)

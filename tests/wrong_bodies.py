@@ -21,7 +21,7 @@ from refused import lines_of, texts_of  # noqa: E402
 # What makes the calls of the machine.
 MACHINE = ("srcp_sockets::mio_system", "srcp_sockets::options")
 # What gives the one value of a type, or what may be any.
-ANY_VALUE = ("MemoryFromAllocError", "MemoryFromAllocFailed", "RunFaultFromMemory", "ChangeDefault")
+ANY_VALUE = ("MemoryFromAllocError", "MemoryFromAllocFailed", "RunFaultFromMemory", "ChangeDefault", "RowDefault")
 FILES = {
     "crates.txt": "low: std\nhigh: low\n",
     "crates/low/specs/Values.antt": "one = 1\ntwo = 2\nthree = 3\nmany = 33\n",
@@ -231,6 +231,22 @@ def nothing_is_refused_of_a_crate_that_is_not_proved(_: str) -> str | None:
         return unlike(here.tried(), 1, lines)
 
 
+def wrong_body_that_is_not_tried_in_time_is_told(_: str) -> str | None:
+    """What was kept counts, and a later run tries the others."""
+    with clone() as here:
+        here.edit("one--2", ONE.format(2))
+        here.tried()
+        here.edit("two--0", TWO.format(0))
+        here.edit("four--5", "file: src/lib.rt\nold:     4\nnew:     5\n", "high")
+        late = here.tried("--minutes", "0")
+        low = "low: 1 refused, 1 of them by an earlier run, 1 not tried"
+        if late.status or late.checks or set(late.lines) != {low, "high: 0 refused, 1 not tried",
+                                                             "1 refused, 0 failed, 2 not tried"}:
+            return f"at the end of its minutes: {late}"
+        later = here.tried()
+        return None if later.lines[-1] == "3 refused, 0 failed" else f"later: {later}"
+
+
 def runner_that_is_ended_leaves_nothing(_: str) -> str | None:
     """Neither a changed file, nor its copy, nor the check that ran."""
     with clone() as here:
@@ -286,5 +302,6 @@ WRONG_BODY_CASES = (wrong_bodies_are_tried_together, wrong_bodies_of_one_functio
                     wrong_body_that_another_function_shows_is_tried_alone, wrong_body_that_does_not_compile_fails,
                     wrong_body_that_the_text_of_a_proof_refuses_is_counted,
                     wrong_body_of_an_unknown_form_fails, law_has_to_refuse_its_edits,
-                    nothing_is_refused_of_a_crate_that_is_not_proved, runner_that_is_ended_leaves_nothing,
+                    nothing_is_refused_of_a_crate_that_is_not_proved,
+                    wrong_body_that_is_not_tried_in_time_is_told, runner_that_is_ended_leaves_nothing,
                     each_public_function_has_a_wrong_body)

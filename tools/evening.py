@@ -23,7 +23,7 @@ from bridge_tests import common, test_mqtt, test_web, test_withrottle
 from bridge_tests.common import Process, stamped_lines, until
 from delays import Delays
 from rails import ALL, LOSSES, POWER, REST, SPEED, Rails
-from srcp_bridges.rows import FORWARD, Key, Row, Rows, parse, position
+from srcp_bridges.srcp.rows import FORWARD, Key, Row, Rows, parse, position
 from wifi import WiFi
 
 LAYOUT = "port = {port}\n" + "".join(

@@ -1,6 +1,6 @@
 #!/usr/bin/env python3
-"""refused.py [--anew] [NAME ..]: tries the wrong bodies of crates/NAME/refused/ and crates/NAME/laws-refuse/, of these
-crates or of all.
+"""refused.py [--anew] [--minutes N] [NAME ..]: tries the wrong bodies of crates/NAME/refused/ and of
+crates/NAME/laws-refuse/, of these crates or of all.
 
 `rt ci` tries the edits of must-fail/, a check for each. These are tried many in one check: one of each function at a
 time, since contracts stay, and each function has its own verdict. An edit counts as refused if the prover refuses the
@@ -11,10 +11,12 @@ refuse a function of laws.rt.
 It works on a copy and changes nothing in the repository. RT_JOBS crates are tried beside each other (none: one). What
 passed is kept in the user's cache by the sum of all that its check read, and is not tried again; --anew tries all. It
 prints a line for each crate and each edit that fails, and ends with `N refused, M failed`: status 1 if M is not 0, and
-2 for a wrong word.
+2 for a wrong word. After --minutes no further check begins, and the last line also says how many edits were not tried.
+A later run tries these.
 """
 import argparse
 import hashlib
+import math
 import os
 import shutil
 import signal
@@ -200,6 +202,7 @@ class Tally:
     by_text: int = 0  # since a proof by hand names what the edit took away, which says little of the contract
     checks: int = 0
     alone: int = 0
+    untried: int = 0  # since the minutes were over
     seconds: float = 0.0
     faults: list[tuple[str, str]] = field(default_factory=list)
 
@@ -211,6 +214,8 @@ class Tally:
             words.append(f", {self.by_text} of them only by the text of a proof")
         if self.faults:
             words.append(f", {len(self.faults)} failed")
+        if self.untried:
+            words.append(f", {self.untried} not tried")
         if self.checks:
             words.append(f" in {self.checks} check{'s' if self.checks > 1 else ''}, {self.alone} alone")
         if self.seconds:
@@ -226,6 +231,7 @@ class Room:
     texts: Texts
     kept: Kept
     tally: Tally
+    end: float  # of the monotonic clock, from which on no check begins
 
     def check(self, texts: Texts) -> Verdict | Fault:
         """Checks the crate with these texts in place of its own, over what the check of its own kept."""
@@ -322,10 +328,11 @@ def try_plan(room: Room, plan: Plan) -> None:
         for edit in [edit for batch in plan.batches for edit, _ in batch.edits] + list(plan.alone):
             room.fail(edit, "not tried")
         return
-    for batch in plan.batches:
-        try_together(room, batch.edits)
-    for edit in plan.alone:
-        try_together(room, ((edit, frozenset()),))
+    for edits in [*(batch.edits for batch in plan.batches), *(((edit, frozenset()),) for edit in plan.alone)]:
+        if time.monotonic() >= room.end:
+            room.tally.untried += len(edits)
+        else:
+            try_together(room, edits)
 
 
 def build_below(repository: Repository, name: str) -> str:
@@ -337,13 +344,19 @@ def build_below(repository: Repository, name: str) -> str:
     return ""
 
 
-def try_crate(repository: Repository, name: str, kept: Kept, is_anew: bool) -> Tally:
+@dataclass(frozen=True)
+class Wanted:
+    is_anew: bool  # also what an earlier run passed
+    end: float  # of the monotonic clock, from which on no check begins
+
+
+def try_crate(repository: Repository, name: str, kept: Kept, wanted: Wanted) -> Tally:
     """Tries the edits of a crate that no earlier run passed."""
     tally, edits = Tally(), []
     for found in read_edits(repository.folder(name)):
         if isinstance(found, tuple):
             tally.faults.append((found[0], found[1].why))
-        elif not is_anew and kept.has(found):
+        elif not wanted.is_anew and kept.has(found):
             tally.refused, tally.kept = tally.refused + 1, tally.kept + 1
         else:
             edits.append(found)
@@ -351,12 +364,15 @@ def try_crate(repository: Repository, name: str, kept: Kept, is_anew: bool) -> T
     tally.faults += [(edit.name, fault.why) for edit, fault in plan.faults]
     if not plan.batches and not plan.alone:
         return tally
+    if time.monotonic() >= wanted.end:
+        tally.untried = len(edits) - len(plan.faults)
+        return tally
     if why := build_below(repository, name):
         tally.faults.append(("the crates below", why))
         return tally
     with tempfile.TemporaryDirectory(dir=repository.top, prefix=f"{name}-") as top:
         copy = copy_of(repository, [*repository.below(name), name], Path(top))
-        try_plan(Room(name, copy.folder(name), texts_of(copy.folder(name)), kept, tally), plan)
+        try_plan(Room(name, copy.folder(name), texts_of(copy.folder(name)), kept, tally, wanted.end), plan)
     return tally
 
 
@@ -378,7 +394,7 @@ def report(name: str, tally: Tally) -> None:
     print(tally.line(name), flush=True)
 
 
-def try_crates(repository: Repository, names: list[str], is_anew: bool) -> list[Tally]:
+def try_crates(repository: Repository, names: list[str], wanted: Wanted) -> list[Tally]:
     """Tries the edits of these crates, those with most edits first."""
     kit = run(["rt", "version"], repository.top)
     if kit.status:
@@ -387,7 +403,7 @@ def try_crates(repository: Repository, names: list[str], is_anew: bool) -> list[
 
     def tried(name: str) -> Tally | None:
         with suppress(Stopped):
-            tally = try_crate(repository, name, Kept(cache(), state_of(repository, name, kit.out)), is_anew)
+            tally = try_crate(repository, name, Kept(cache(), state_of(repository, name, kit.out)), wanted)
             report(name, tally)
             return tally
         return None
@@ -399,6 +415,7 @@ def try_crates(repository: Repository, names: list[str], is_anew: bool) -> list[
 def main() -> int:
     parser = argparse.ArgumentParser(description=(__doc__ or "").partition("\n\n")[0].partition(": ")[2])
     parser.add_argument("--anew", action="store_true", help="also what an earlier run passed")
+    parser.add_argument("--minutes", type=float, metavar="N", default=math.inf, help="begin no check after N minutes")
     parser.add_argument("names", nargs="*", metavar="NAME", help="a crate, as crates.txt has it")
     words = parser.parse_args()
     for number in (signal.SIGTERM, signal.SIGINT, signal.SIGHUP):
@@ -407,10 +424,11 @@ def main() -> int:
         parser.error(f"no crate of crates.txt: {', '.join(unknown)}")
     with snapshot() as repository:
         names = words.names or [name for name in repository.lines if read_edits(repository.folder(name))]
-        tallies = try_crates(repository, names, words.anew)
+        tallies = try_crates(repository, names, Wanted(words.anew, time.monotonic() + 60 * words.minutes))
     drop_old(cache())
-    failed = sum(len(tally.faults) for tally in tallies)
-    print(f"{sum(tally.refused for tally in tallies)} refused, {failed} failed")
+    failed, untried = sum(len(tally.faults) for tally in tallies), sum(tally.untried for tally in tallies)
+    said = f"{sum(tally.refused for tally in tallies)} refused, {failed} failed"
+    print(f"{said}, {untried} not tried" if untried else said)
     return 1 if failed else 0
 
 

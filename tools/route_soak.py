@@ -12,7 +12,7 @@ from typing import Any
 
 from bridge_tests import common
 from bridge_tests.common import until
-from srcp_bridges.rows import Lock, Port, parse
+from srcp_bridges.srcp.rows import Lock, Port, parse
 
 Accessory = tuple[int, int]  # bus and address
 OWN = 9  # the routes' own bus

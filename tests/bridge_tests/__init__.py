@@ -53,13 +53,15 @@ def cases_of(*kinds):
 
 from .test_box import Box  # noqa: E402
 from .test_box_hands import BoxWithHands  # noqa: E402
+from .test_box_sections import BoxOfSections  # noqa: E402
+from .test_box_tracks import BoxOfTracks  # noqa: E402
 from .test_broker import MqttBesideOthers, MqttWithLimits, MqttWithTls  # noqa: E402
 from .test_chromium import WebInChromium, WebInGerman  # noqa: E402
 from .test_chromium_plain import WebWithoutAScript  # noqa: E402
 from .test_chromium_silence import WebWithBeats, WebWithSilence  # noqa: E402
 from .test_chromium_stop import WebWithADriverThatSleeps  # noqa: E402
 from .test_chromium_touch import WebByTouch  # noqa: E402
-from .test_confirmed import DccExTelling, Elsewhere, OfAwaited, Z21Telling  # noqa: E402
+from .test_confirmed import DccExTelling, Elsewhere, OfAwaited, OfDccEx, Z21Telling  # noqa: E402
 from .test_dcc_ex import DccEx, DccExWithHands, DccExWithLosses, Simulated  # noqa: E402
 from .test_doctor import Doctor  # noqa: E402
 from .test_driving import Driving  # noqa: E402
@@ -99,11 +101,11 @@ BRIDGE_CASES = cases_of(Readme, Following, MqttWithAWrongBroker, Stopping, Mqtt,
                         Entering, WiThrottle, WiThrottleStops, WiThrottleWithBeats, WiThrottleWithRoutes, Srcpd,
                         SrcpdWithADriver, DccEx, DccExWithLosses, DccExWithHands, HandsBeforeRows, HandsBeforeStops,
                         Z21, Z21WithLosses, Z21WithHands, DccExWithPrograms, Z21WithPrograms, Programming, Doctor,
-                        Guard, Keep, Box, BoxWithHands, Log, Parsing, Plans, PlanInChromium, LargePlanInChromium,
-                        PlanInGerman, SignalsInChromium,
+                        Guard, Keep, Box, BoxWithHands, BoxOfSections, BoxOfTracks, Log, Parsing, Plans, PlanInChromium,
+                        LargePlanInChromium, PlanInGerman, SignalsInChromium,
                         WebBesideADriver, Simulated, SimulatedDccEx, SimulatedZ21, WhatMoves, Watching, DccEx4,
                         DccEx52, Z21WithDoubles, DccExStopAll, Z21StopAll, DccExLastWords, Z21LastWords, Speaking,
                         OfStopAll, Ends, DriverThatEnds, ServerThatIsLeft, WebOfOtherFiles, WebThatIsUpgraded, Driving,
                         WebWithoutAScript, WebWithForms, Z21WithShuffles, DccExTelling, Z21Telling, OfAwaited,
                         Elsewhere, WebWithADriverThatSleeps, DccEx5, DccExAtAMega, DccExWithLostCommands,
-                        DccExWithTurnedBits, Z21Start)
+                        DccExWithTurnedBits, Z21Start, OfDccEx)

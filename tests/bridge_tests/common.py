@@ -213,7 +213,7 @@ def rows(port):
 
 def position_of(port, bus, number):
     """How an accessory lies, as one sees that comes now."""
-    from srcp_bridges.rows import Rows, parse, position
+    from srcp_bridges.srcp.rows import Rows, parse, position
     found = Rows()
     for line in stamped_lines(port):
         found.enter(*parse(line))
@@ -222,7 +222,7 @@ def position_of(port, bus, number):
 
 def parsed(lines):
     """Rows by their keys, without stamps, and without sessions: of these the snapshot is one."""
-    from srcp_bridges.rows import parse
+    from srcp_bridges.srcp.rows import parse
     found = dict(parse("0 " + line) for line in lines)
     return {key: row for key, row in found.items() if key[1] != "SESSION"}
 

@@ -24,11 +24,11 @@ class Box(Case):
     program = "box"
     layout = LAYOUT + '[[bus]]\nnumber = 3\ngroups = ["GA", "FB"]\nga_max = 9\nga_ports = 3\nfb_ports = 9\n'
 
-    def begin(self):
+    def begin(self, plan=PLAN):
         """Starts the box, and waits until it has put all to rest."""
         panel = Session(self.server.port, "INFO")
         panel.hears_until(b"100 INFO 3 FB 9 0\n")
-        self.box = self.starts("box.py", "--plan", PLAN, "--program", common.SERVER, port=self.way.port,
+        self.box = self.starts("box.py", "--plan", plan, "--program", common.SERVER, port=self.way.port,
                                start_new_session=True)
         self.is_at_rest(panel)
 
@@ -474,8 +474,9 @@ class Box(Case):
         self.assertRegex(box.told(), rf"\A-- --plan {plan}: line \d+: block is no key of a route: .*\n\Z")
 
     def test_a_sensor_that_the_server_does_not_have(self):
-        """It names the plan and the sensor: one of a block, one that frees a route, or that of a route itself."""
-        for keys, sensor, bus in (("blocks = [[1, 33]]", 33, 1), ("frees = [9, 1]", 1, 9), ("", 10, 3)):
+        """It names the plan and the sensor: of a block, of a section, one that frees a route, or that of a route."""
+        for keys, sensor, bus in (("blocks = [[1, 33]]", 33, 1), ("frees = [9, 1]", 1, 9),
+                                  ("sections = [[1, 32], [1, 34]]", 34, 1), ("", 10, 3)):
             plan = Path(new_folder(), "plan.toml")
             plan.write_text(f"bus = 3\n[[route]]\nnumber = {sensor if bus == 3 else 1}\n{keys}\n")
             box = self.starts("box.py", "--plan", plan, "--program", common.SERVER)

@@ -45,7 +45,7 @@ class BoxOfTracks(Case):
         """Asks for both routes of a plan: the second is set once the first was given back."""
         box = self.starts("box.py", "--plan", plan, "--program", common.SERVER, port=self.way.port,
                           start_new_session=True)
-        self.has(*[f"101 INFO 3 GA {number} N" for number in (1, 2)])
+        until(lambda: "-- none of 2 routes is set" in box.told(), "the box hears asks")
         self.throttle.order("SET 3 GA 1 1 1 250", "SET 3 GA 2 1 1 250")
         until(lambda: "-- route 1 set" in box.told(), "route 1 is set")
         self.throttle.order("SET 3 GA 1 0 1 250")

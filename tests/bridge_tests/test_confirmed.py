@@ -1,7 +1,9 @@
 """What a station misses, and what it does not confirm: it is told again, and every display is told."""
+import asyncio
 import signal
 import time
 import unittest
+from unittest import mock
 
 from .common import LAYOUT, Session, free_port, rows, until
 from .stations import QUIET, StationCase
@@ -224,6 +226,45 @@ class OfAwaited(unittest.TestCase):
         self.assertEqual(fits, [(True, True), (True, True), (False, True), (False, True), (False, False)])
         ahead.has_read()
         self.assertTrue(ahead.fits(False))
+
+
+class OfDccEx(unittest.IsolatedAsyncioTestCase):
+    """What a DCC-EX is told and asked, as its reports come. No time passes here but by `now`."""
+    program = "dcc_ex"
+    cab = "cab", 3
+
+    async def asyncSetUp(self):
+        from dcc_ex import DccEx
+        from srcp_bridges.stations.station import words_of_driver
+        asked, loop = words_of_driver("").parse_args([]), asyncio.get_running_loop()
+        asked.station, self.now = "/dev/ttyACM0", 10.0
+        loop.set_debug(False)  # which looks at the clock
+        clock = mock.patch.object(loop, "time", lambda: self.now)
+        clock.start()
+        self.addCleanup(clock.stop)
+        self.station = DccEx(asked)
+
+    async def test_what_it_refuses_is_told_again_at_once(self):
+        """It does not say which command that was."""
+        self.station.telling(self.cab, (60, 1))
+        self.station.tell_again()
+        awaited = [*self.station.awaited.parts]
+        with mock.patch("dcc_ex.say") as say:
+            self.station.take(b"<X>")
+        self.station.tell_again()
+        told = self.station.track.told.get(self.cab)
+        self.assertEqual((awaited, [*self.station.awaited.parts], told), ([self.cab], [], (-1, None)))
+        say.assert_called_once_with("station: refused a command")
+
+    async def test_what_it_need_not_report_is_asked_for(self):
+        """It reports what changes alone: not what it does already, nor what has come though its report was lost."""
+        self.station.hands.reports.reported[self.cab] = 60, 1
+        told = [self.station.command(self.cab, (60, 1)), self.station.command(self.cab, (61, 1))]
+        self.station.telling(self.cab, (61, 1))
+        self.now += 1
+        self.station.tell_again()
+        told.append(self.station.command(self.cab, (61, 1)))
+        self.assertEqual(told, [b"<t 3 60 1>\n<t 3>\n", b"<t 3 61 1>\n", b"<t 3 61 1>\n<t 3>\n"])
 
 
 class Elsewhere(StationCase):

@@ -196,7 +196,8 @@ class DccEx(Drives, DccExCase):
             file.write("1 GL 3 = what\n")
         for words in [["--station", "ttyACM0"], ["--station", "localhost:abc"], ["--station", "/etc/passwd"], [],
                       ["--station", self.link, "--bus", "0"], ["--station", self.link, "--names", names],
-                      ["--station", "x:1", "--port", "99999"], ["--station", "/dev/null", "--bus", "77"]]:
+                      ["--station", "x:1", "--port", "99999"], ["--station", "localhost:1", "--bus", "77"],
+                      ["--station", "/dev/null"]]:
             command = [sys.executable, PROGRAMS / "dcc_ex.py", "--port", str(self.server.port), *words]
             ran = subprocess.run(command, capture_output=True, text=True, timeout=WAIT)
             told = [line for line in ran.stderr.splitlines() if not re.match("-- (server|station): ", line)]

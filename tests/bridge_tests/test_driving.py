@@ -13,12 +13,12 @@ class Driving(Case):
     def after(self, act: Callable[..., Awaitable[object]], before="", behind="", first="") -> list[str]:
         """The row of locomotive 3 once that was done by a mirror. Another throttle commands something `first`,
         something just before the first SET of it is sent, and something just behind its reply."""
-        from srcp_bridges import srcp
+        from srcp_bridges.srcp import mirrors, sessions
         self.throttle.order("INIT 1 GL 3 N 1 126 2", "SET 1 GL 3 1 60 126 0 0", *filter(None, [first]))
-        asks = srcp.Session.ask
+        asks = sessions.Session.ask
         others: list[list[str | None]] = [[before], [behind]]
 
-        async def ask(session: srcp.Session, command: str) -> object:
+        async def ask(session: sessions.Session, command: str) -> object:
             is_first = command.startswith("SET 1 GL 3 ") and bool(others)
             for command_of_other in filter(None, others.pop(0) if is_first else []):
                 await asyncio.to_thread(self.throttle.order, command_of_other)
@@ -28,23 +28,23 @@ class Driving(Case):
             return reply
 
         async def run() -> None:
-            mirror = srcp.Mirror(argparse.Namespace(host="127.0.0.1", port=self.server.port, again=0.05))
+            mirror = mirrors.Mirror(argparse.Namespace(host="127.0.0.1", port=self.server.port, again=0.05))
             runs = asyncio.create_task(mirror.run())
             while not mirror.here or not await mirror.shows((1, "GL", 3, False)):
                 await asyncio.sleep(0.02)
-            with mock.patch.object(srcp.Session, "ask", ask):
+            with mock.patch.object(sessions.Session, "ask", ask):
                 await act(mirror)
             runs.cancel()
 
-        with mock.patch.object(srcp, "say"):
+        with mock.patch.object(mirrors, "say"):
             asyncio.run(run())
         return self.throttle.ask("GET 1 GL 3").split()[5:]
 
     def test_a_speed_of_0_of_the_same_moment_stays(self) -> None:
         """A function, and a direction by a phone and by a topic, leave a train at rest that another put to rest, or a
         STOP ALL that its row does not show yet."""
-        from srcp_bridges.driving import Driver, switch
-        from srcp_bridges.orders import Orders
+        from srcp_bridges.srcp.driving import Driver, switch
+        from srcp_bridges.page.orders import Orders
 
         async def by_function(mirror):
             await switch(mirror, lambda command, seen: mirror.ask(command), 1, 3, {1: 1})

@@ -102,7 +102,7 @@ class ServerThatIsLeft(unittest.IsolatedAsyncioTestCase):
 
     async def serves(self, serve):
         """Serves one connection; returns this end of it, and that of the server."""
-        from srcp_bridges.places import listen
+        from srcp_bridges.page.places import listen
 
         async def noted(reader, writer):
             self.ends.put_nowait(writer)

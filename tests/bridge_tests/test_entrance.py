@@ -16,10 +16,10 @@ class Entering(unittest.TestCase):
     program = "web"
 
     def test_words_are_limited_by_address(self):
-        from srcp_bridges import entrance
+        from srcp_bridges.page import entrance
         moment = 1000.0
         door = entrance.Entrance("sunday", 8303, lambda: moment)
-        for _ in range(entrance.WRONG):
+        for _ in range(entrance.WRONG_WORDS):
             self.assertEqual(door.wait("10.0.0.7"), 0)
             self.assertIsNone(door.enter("10.0.0.7", "monday"))
         self.assertEqual(door.wait("10.0.0.7"), entrance.PAUSE)
@@ -31,7 +31,7 @@ class Entering(unittest.TestCase):
         self.assertEqual(door.wait("10.0.0.7"), 0)
         door.wrong("10.0.0.7")
         self.assertEqual(door.wait("10.0.0.7"), entrance.PAUSE)
-        moment += entrance.PAUSE * entrance.WRONG
+        moment += entrance.PAUSE * entrance.WRONG_WORDS
         door.wrong("10.0.0.9")
         self.assertEqual(set(door.rested), {"10.0.0.9"})  # who has all trials again is forgotten
         for _ in range(entrance.TOKENS):
@@ -39,7 +39,7 @@ class Entering(unittest.TestCase):
         self.assertEqual((len(door.tokens), door.is_open(one), door.is_open(last)), (entrance.TOKENS, False, True))
 
     def test_what_counts_as_one_machine(self):
-        from srcp_bridges.entrance import guest_of
+        from srcp_bridges.page.entrance import guest_of
         self.assertEqual(guest_of("192.168.1.7"), "192.168.1.7")
         self.assertEqual(guest_of("::ffff:192.168.1.7"), "192.168.1.7")
         self.assertEqual(guest_of("fd00:1:2:3:4::5"), guest_of("fd00:1:2:3:ffff:1:2:3"))
@@ -47,7 +47,7 @@ class Entering(unittest.TestCase):
         self.assertEqual(guest_of("fe80::1%eth0"), guest_of("fe80::2"))
 
     def test_names_of_this_machine(self):
-        from srcp_bridges.hosts import is_own, to_type
+        from srcp_bridges.page.hosts import is_own, to_type
         with tempfile.NamedTemporaryFile("w", suffix=".conf") as file:
             file.write("# search evil.example\nnameserver 192.168.178.1\n"
                        "SEARCH Club.example shed.\nsearch .\ndomain attic.example\n")

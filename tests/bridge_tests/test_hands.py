@@ -9,10 +9,10 @@ class HandsBeforeStops(unittest.IsolatedAsyncioTestCase):
     program = "hands"
 
     async def test_what_a_hand_did_before_a_stop_does_not_undo_it(self):
-        from srcp_bridges.rows import Drive
+        from srcp_bridges.srcp.rows import Drive
         from srcp_bridges.stations.hands import Hands
         from srcp_bridges.stations.registry import Orders
-        from srcp_bridges.stop import Stops
+        from srcp_bridges.srcp.stop import Stops
         asked, marked = [], []
 
         async def ask(command):
@@ -52,20 +52,23 @@ class HandsBeforeRows(unittest.IsolatedAsyncioTestCase):
     async def asyncSetUp(self):
         from srcp_bridges.stations.bus import Bus
         from srcp_bridges.stations.hands import Hands
+        from srcp_bridges.stations.track import Hooks
         asked = types.SimpleNamespace(bus=1, patience=1, host="", port=0, again=1, turnout_pace=1)
-        self.bus = Bus(asked, {}, lambda: None)
+        hooks = Hooks(lambda: None, lambda address: None, lambda part: False,
+                      lambda *report: self.hands.locomotive(*report), (126,), None)
+        self.bus = Bus(asked, {}, hooks)
         self.hands = Hands(self.bus)
         self.asked, self.between = [], lambda: None
         self.bus.mirror.session, self.bus.mirror.ask = True, self.answers
         self.bus.station_comes()
 
     async def answers(self, command):
-        from srcp_bridges.rows import Refused
+        from srcp_bridges.srcp.replies import Refused
         self.asked.append(command)
         if command == self.GET:
             if row := self.bus.mirror.rows.get((1, "GL", 77, "does")):
                 return row
-            raise Refused("416 ERROR no data")
+            raise Refused(416, "416 ERROR no data")
         if command == self.INIT:
             self.tells("101 INFO 1 GL 77 N 1 126 29", "100 INFO 1 GL 77 1 0 0" + 29 * " 0")
             self.between()
@@ -122,14 +125,14 @@ class HandsBeforeRows(unittest.IsolatedAsyncioTestCase):
 
     async def test_one_that_another_makes_and_locks_behind_the_get_stands(self):
         """Its row is told before the INIT is refused, or after. It is no fault: STOP ALL reaches it."""
-        from srcp_bridges.rows import Refused
+        from srcp_bridges.srcp.replies import Refused
         rows = "101 INFO 1 GL 77 N 1 126 5", "100 INFO 1 GL 77 1 0 0 0 0 0 0 0"
 
         async def locked(command):
             if command == self.GET:
                 return await self.answers(command)
             self.tells(*before)
-            raise Refused("414 ERROR device locked")
+            raise Refused(414, "414 ERROR device locked")
 
         for before, after in (rows, ()), ((), rows):
             await self.asyncSetUp()

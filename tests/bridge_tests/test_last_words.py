@@ -68,7 +68,24 @@ class DccExLastWords(LastWords, DccExCase):
 
 
 class Z21LastWords(LastWords, Z21Case):
-    pass
+    def test_what_is_removed_while_there_is_no_driver(self):
+        """The station keeps speeds while its power is off, and who comes then knows nothing of that locomotive. One of
+        them a hand throttle drove, and one is the last of many."""
+        self.station.loses, many, drive = 0, range(101, 241), (3, 77, 240)
+        self.throttle.flood([f"INIT 1 GL {n} N 1 28 0" for n in many])
+        self.throttle.order("SET 1 GL 240 1 14 28")
+        self.station.hand(77, speed=40)
+        self.has("100 INFO 1 GL 77 1 40 126")
+        self.track(lambda s: all(n in s.cabs for n in many) and s.cabs[240] == (63, 1), "all have been told")
+        time.sleep(QUIET)
+        self.driver.end(signal.SIGKILL)
+        self.is_stopped()
+        self.throttle.order(*[f"TERM 1 GL {n}" for n in drive])
+        self.start()
+        self.throttle.order("SET 1 POWER ON")
+        self.track(lambda s: s.power == 1, "power is on")
+        time.sleep(QUIET)
+        self.assertEqual([cab for cab in drive if self.station.cabs[cab][0] > 0], [])
 
 
 class Speaking(unittest.TestCase):

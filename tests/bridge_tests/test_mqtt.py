@@ -131,8 +131,8 @@ class Payloads(unittest.TestCase):
     program = "mqtt"
 
     def test_payloads(self):
-        from srcp_bridges import rows
-        from srcp_bridges.topics import commands_for
+        from srcp_bridges.srcp import rows
+        from srcp_bridges.page.topics import commands_for
         table = {(1, "GA", 5, "is"): rows.Accessory(0, "N"), (1, "GA", 5, 0): rows.Port(1, 1),
                  (1, "GA", 5, 1): rows.Port(0, 0)}
         for place, text, commands in [
@@ -150,7 +150,7 @@ class Payloads(unittest.TestCase):
                 commands_for(table, place, text)
 
     def test_what_is_wanted_of_a_locomotive(self):
-        from srcp_bridges.topics import locomotive_of, wanted_of
+        from srcp_bridges.page.topics import locomotive_of, wanted_of
         for text, wanted in [
             ("12", (None, 12, None, {})), ('{"mode": 1}', (1, None, None, {})),
             ('{"functions": {"1": true}}', (None, None, None, {1: 1})),
@@ -167,7 +167,7 @@ class Payloads(unittest.TestCase):
         self.assertEqual([locomotive_of(place) for place in places], [(1, 3)] + [None] * 6)
 
     def test_topics_of_our_form(self):
-        from srcp_bridges.topics import device_of
+        from srcp_bridges.page.topics import device_of
         for place, device in [
             ("1/POWER", (1, "POWER", 0, False)), ("1/POWER/text", (1, "POWER", 0, False)),
             ("2/GL/3", (2, "GL", 3, False)), ("2/GL/3/is", (2, "GL", 3, False)), ("2/GL/3/lock", (2, "GL", 3, True)),
@@ -195,7 +195,7 @@ class Payloads(unittest.TestCase):
     @unittest.skipUnless(paho, "python3-paho-mqtt is not installed")
     def test_a_broker_that_is_too_slow(self):
         """What cannot be queued is shown later, in its last state; paho has numbers for 65,535 messages."""
-        from srcp_bridges import broker
+        from srcp_bridges.page import broker
         bridge, limit = new_bridge(), broker.QUEUED
         bridge.client, bridge.following = paho.Client(client_id="slow"), True
         bridge.client.max_queued_messages_set(limit)

@@ -32,7 +32,7 @@ class Orders(unittest.IsolatedAsyncioTestCase):
     program = "mqtt"
 
     def setUp(self):
-        from srcp_bridges import rows
+        from srcp_bridges.srcp import rows
         self.bridge, self.told = new_bridge(), []
         self.mirror, self.orders = self.bridge.mirror, self.bridge.orders
         self.row = rows.Drive(0, 1, 9, 28, ())

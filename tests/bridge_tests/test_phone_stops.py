@@ -8,6 +8,7 @@ from .common import rows, until
 from .phones import Panel, WiThrottleCase
 
 STOPPED = "HM3: stopped by others: press stop, or go to 0, before you drive on"
+SILENCE = 1.5  # seconds in which a phone counts as silent, and not yet as gone
 
 
 class WiThrottleWithBeats(WiThrottleCase):
@@ -79,6 +80,21 @@ class WiThrottleStops(WiThrottleCase):
             phone.settled()
             self.refuses(phone, "0", "M0A*<;>V58", "M0A*<;>V59")
             time.sleep(1)  # what comes in now was sent now
+        phone.send("M0A*<;>V0", "M0A*<;>V20")
+        self.has("100 INFO 1 GL 3 1 20 126")
+
+    def test_what_a_line_takes_that_the_network_held_back(self):
+        """A phone that has given its locomotive back is silent. The network held back that it takes the locomotive once
+        more, and a speed: by then the speed may be as old as the silence."""
+        phone = self.phone_with("S3")
+        self.throttle.order("SET 1 POWER ON")
+        phone.send("M0A*<;>V0", "M*-*<;>r", "*+")
+        phone.got("M0-S3<;>")
+        time.sleep(SILENCE)
+        phone.send("*-", "M0+S3<;>S3")
+        phone.got("M0+S3<;>", "M0AS3<;>s1")
+        self.refuses(phone, "0", "M0A*<;>V58", "M0A*<;>V59")
+        time.sleep(1)  # what comes in now was sent now
         phone.send("M0A*<;>V0", "M0A*<;>V20")
         self.has("100 INFO 1 GL 3 1 20 126")
 

@@ -83,13 +83,16 @@ FAULTS = [  # the text, what stands in its place, and the fault
     ("number = 2", "number = 2\nsignal = [2, 1, 2]", "line 33: the key signal of a route is [bus, address, port of go"),
     ("number = 2", "number = 2\nfrees = [[1, 1]]", "line 33: the key frees of a route is [bus, sensor]"),
     ("number = 2", "number = 2\nfrees = [3, 1]", "line 33: the key frees of a route is on another bus"),
+    ("number = 2", "number = 2\nsections = [1, 1]", "line 33: the sections of a route are a list of [bus, sensor]"),
+    ("number = 2", "number = 2\nsections = [[1, 1], [1, 4097]]", "line 33: the sections of a route are a list of"),
+    ("number = 2", "number = 2\nsections = [[1, 1], [3, 1]]", "line 33: the sections of a route are on other buses"),
     ("bus = 3\n", "bus = 3\nroutes = 4\n", "line 2: routes is no key of a plan: bus, plan, legend, names,"),
     ("bus = 3\n", "bus = 3\nbus = 3\n", "Cannot overwrite a value (at line 2, column 8)"),
 ]
 
 
 def plan_of(content):
-    from srcp_bridges.plan import plan_of
+    from srcp_bridges.plan.plan import plan_of
     return plan_of(content)
 
 
@@ -195,7 +198,7 @@ class Plans(unittest.TestCase):
         self.assertEqual([route["number"] for route in drawing["routes"]], [1, 2, 3, 4])
         driven = {key.split()[0] for key in keys} - {str(drawing["bus"])}
         self.assertEqual([(bus, "POWER" in buses[int(bus)]["groups"]) for bus in driven], [("1", True)])  # one driver
-        page = (TOP / "bridges" / "README.md").read_text()
+        page = (TOP / "bridges" / "signal_box.md").read_text()
         self.assertIn(text[text.index("plan = '''"):text.index("[legend]")].rstrip(), page)
         with self.assertRaises(ValueError) as met:
             plan_of(text.replace("t1 =", "t8 ="))
@@ -218,6 +221,12 @@ class Plans(unittest.TestCase):
             with self.assertRaises(ValueError) as met:
                 self.of(line, *legend[:2], "", *entries)
             self.assertIn(fault, str(met.exception))
+
+    def test_sections(self):
+        """Two routes may have the same, and one may have a sensor twice, or none. None has to be drawn."""
+        for sections in [], [[1, 1]], [[1, 3], [1, 1], [250, 4096], [1, 1]]:
+            drawing = plan_of(PLAN.replace("from = ", f"sections = {sections}\nfrom = ")).drawing
+            self.assertEqual([route["number"] for route in drawing["routes"]], [1, 2])
 
     def test_faults(self):
         for old, new, fault in FAULTS:

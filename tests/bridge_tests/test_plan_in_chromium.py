@@ -253,7 +253,7 @@ class PlanInChromium(PlanCase):
 
     def gives_back(self):
         self.js(f"{self.chip('West to track 1')}.click()")
-        until(lambda: self.js("import('/layout.js').then(m => m.devices.get('3 GA 1').lies)") == 0, "it is given back")
+        until(lambda: self.js("import('/layout.js').then(m => m.rowOf('3 GA 1').lies)") == 0, "it is given back")
         self.throttle.order("SET 3 FB 1 0", "TERM 1 LOCK GA 1", "TERM 2 LOCK GA 1")
         self.route_is("West to track 1", "free")
         self.clicks("t1"), self.says("t1", "t1, West turnout: branch")

@@ -127,11 +127,12 @@ class Programs(StationCase):
     def test_program_finds_no_decoder(self):
         self.may()
         self.station.decoder = {}
-        for words in (["read", 1], ["write", 1, 3], ["table"], ["--anyway", "write", 1, 3]):
+        for words, told in ((["read", 1], {"R"}), (["write", 1, 3], {"R"}), (["table"], {"R"}),
+                            (["--anyway", "write", 1, 3], {"R", "W"})):
             out, wrong, status = self.programs(*words)
             self.assertRegex(wrong, "^CV [18]: no decoder answers\n$")
             self.assertEqual((out, status), ("", 1))
-        self.assertEqual({command[0] for command in self.told()}, {"R", "W"})
+            self.assertEqual({command[0] for command in self.told()}, told, words)
         self.assertNotIn("R 29", self.told())
         self.station.decoder = None
         self.assertEqual(self.asks("READ 1"), [self.no_track])
@@ -175,6 +176,17 @@ class DccExWithPrograms(Programs, DccExCase):
         self.assertFalse(os.path.exists(self.door()))
         self.assertNotIn("Traceback", self.driver.told())
         idle.close()
+
+    def test_program_reads_an_address_back(self):
+        """A station may say that a decoder has taken a value which it has not."""
+        class KeepsItsLowByte(dict):
+            def __setitem__(self, cv, value):
+                super().__setitem__(cv, self[cv] if cv == 18 else value)
+
+        self.station.decoder = KeepsItsLowByte(self.station.decoder)
+        told, wrong, status = self.programs("address", 1234)
+        self.assertIn("CV 18 = 210, was 232\n", told)
+        self.assertEqual((wrong, status), ("CV 18 = 232, and not 210\n", 1))
 
     def test_program_while_trains_drive(self):
         """The station has a track for it. Requests of several are carried out one after the other."""
@@ -267,7 +279,7 @@ class Programming(unittest.TestCase):
         ready = types.SimpleNamespace(is_set=lambda: True)
         station = types.SimpleNamespace(track=track, line=line, ready=ready, encode_cv=lambda *asked: asked)
         made = programming.Programming(station, False, 0.1)
-        limit = mock.patch.object(programming, "LIMIT", 0.5)
+        limit = mock.patch.object(programming, "CV_TAKES", 0.5)
         limit.start()
         self.addCleanup(limit.stop)
         return made

@@ -1,4 +1,4 @@
-"""The commands of bridges/README.md, run as they stand there, and its units."""
+"""The commands of the pages of bridges/, run as they stand there, and their units."""
 import re
 import shutil
 import unittest
@@ -13,9 +13,9 @@ from .common import PACKAGES, PROGRAMS, free_port, new_folder, rows, until
 from .test_mqtt import IS_THERE, Broker
 from .test_web import Events
 
-PAGE = "bridges/README.md"
+PAGES = ("bridges/README.md", "bridges/stations.md", "bridges/page.md", "bridges/signal_box.md")  # read in this order
 PORTS = ("8303", "8304", "8305", "12090", "1883")
-BROKER = "## Many displays"
+BROKER = "bridges/mqtt.md"
 
 
 def at_the_page(port, station):
@@ -81,13 +81,11 @@ class Readme(unittest.TestCase):
             reader.environment |= {"XDG_CONFIG_HOME": str(config), "PYTHONPATH": PACKAGES}
             yield reader
 
-    def blocks(self):
-        """The blocks of the page before it comes to the broker, and those from there on."""
-        text = (common.TOP / PAGE).read_text()
-        parts = [[block.splitlines() for kind, block in pages.BLOCK.findall(part) if kind == "console"]
-                 for part in text.partition(BROKER)[::2]]
-        self.assertIsNone(pages.console_blocks(PAGE)[1])
-        return parts
+    def blocks(self, *names: str) -> list[list[str]]:
+        """The blocks of these pages, one page after the other."""
+        parts = [pages.console_blocks(page) for page in names]
+        self.assertEqual([fault for _, fault in parts], [None] * len(names))
+        return [block for blocks, _ in parts for block in blocks]
 
     def follows(self, reader, block):
         self.assertIsNone(reader.follows(block))
@@ -109,7 +107,7 @@ class Readme(unittest.TestCase):
     def test_quarter_of_an_hour(self):
         with self.reader() as reader:
             acts = None
-            for block in self.blocks()[0]:
+            for block in self.blocks(*PAGES):
                 if not block[0].startswith("$ "):
                     acts = acts or self.acts(reader)
                     next(acts)
@@ -122,9 +120,15 @@ class Readme(unittest.TestCase):
         with self.reader() as reader:
             broker = Broker(port=reader.ports["1883"])
             self.addCleanup(broker.stop)
-            serve, *blocks = self.blocks()[0][:1] + self.blocks()[1]
-            for block in [serve, *blocks]:
+            for block in self.blocks(*PAGES)[:1] + self.blocks(BROKER):
                 self.follows(reader, block)
+
+    def test_pages_that_have_commands(self) -> None:
+        """All are read above, and no other one has a command."""
+        for page in PROGRAMS.glob("*.md"):
+            name = f"bridges/{page.name}"
+            want = None if name in (*PAGES, BROKER) else "nothing to run"
+            self.assertEqual(pages.console_blocks(name)[1], want, name)
 
     def test_units_and_links(self):
         """The units start programs that are there, and are as shut in as that of the server. Links lead to files."""
@@ -136,9 +140,10 @@ class Readme(unittest.TestCase):
         hard = {line for line in hard if line.partition("=")[0] not in differ}
         self.assertEqual(hard - set(unit.splitlines()), set())
         self.assertGreater(len(hard), 20)
-        for path in re.findall(r"\]\((?!http)([^)#]+)", (common.TOP / PAGE).read_text()):
+        text = "".join(page.read_text() for page in sorted(PROGRAMS.glob("*.md")))
+        for path in re.findall(r"\]\((?!http)([^)#]+)", text):
             self.assertTrue((PROGRAMS / path).exists(), path)
-        for line in (common.TOP / PAGE).read_text().splitlines():
+        for line in text.splitlines():
             other = re.search(r"`BRIDGE=(\w+)`", line)
             for names in re.findall(r"`srcp_bridge@(\w+)`|srcp_bridge_(\w+)`", line):
                 name = other[1] if other else "".join(names).removesuffix("_2")

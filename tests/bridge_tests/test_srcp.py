@@ -18,7 +18,7 @@ class Parsing(unittest.TestCase):
     program = "srcp"
 
     def test_each_kind_of_row(self):
-        from srcp_bridges import rows as kinds
+        from srcp_bridges.srcp import rows as kinds
         for line, key, row in [
             ("1.5 101 INFO 0 SESSION 2 INFO", (0, "SESSION", 2, "is"), kinds.Peer(1.5, "INFO")),
             ("0.000 100 INFO 1 POWER OFF", (1, "POWER", 0, "does"), kinds.Power(0, False, "")),
@@ -35,7 +35,7 @@ class Parsing(unittest.TestCase):
             self.assertEqual(kinds.parse(line), (key, row))
 
     def test_how_an_accessory_lies(self):
-        from srcp_bridges.rows import Accessory, Port, position
+        from srcp_bridges.srcp.rows import Accessory, Port, position
 
         def lies(*ports):
             table = {(1, "GA", 5, number): port for number, port in enumerate(ports)}
@@ -49,7 +49,7 @@ class Parsing(unittest.TestCase):
 
     def test_an_accessory_lies_as_the_port_that_was_last_set_to_1(self):
         """Also if an older pulse ends later, and over a listing of what happened meanwhile."""
-        from srcp_bridges.rows import Accessory, Port, Rows, position
+        from srcp_bridges.srcp.rows import Accessory, Port, Rows, position
         rows = Rows()
 
         def comes(lies, *port, listed_again=False):
@@ -67,7 +67,7 @@ class Parsing(unittest.TestCase):
         self.assertEqual((position(rows, 1, 5), rows.put), (None, {}))
 
     def test_which_commands_have_a_locomotive_drive(self):
-        from srcp_bridges.stop import driven
+        from srcp_bridges.srcp.stop import driven
         for command, locomotive in [("set 01 gl 3 1 9 28 1", (1, 3)), ("SET 1 GL 3 0 1 0", (1, 3)),
                                     ("SET 1 GL 3 1 0 28", None), ("SET 1 GL 3 2 9 28", None),
                                     ("SET 1 GA 3 1 9 28", None), ("GET 1 GL 3", None), ("SET 1 GL x 1 9", None),
@@ -80,14 +80,14 @@ class Following(Case):
 
     def run_mirror(self, port, steps):
         """Runs a mirror, and the steps beside it in a thread, which may block."""
-        from srcp_bridges import srcp
-        srcp.say = lambda text: None
+        from srcp_bridges.srcp import mirrors
+        mirrors.say = lambda text: None
         self.changes = []
         self.joins = []
 
         async def main():
             asked = argparse.Namespace(host="127.0.0.1", port=port, again=0.05)
-            self.mirror = srcp.Mirror(asked, self.changes.append, self.joins.append)
+            self.mirror = mirrors.Mirror(asked, self.changes.append, self.joins.append)
             runs = asyncio.create_task(self.mirror.run())
             await asyncio.to_thread(steps)
             runs.cancel()
@@ -165,11 +165,11 @@ class Following(Case):
 
     def run_program(self, steps):
         """Runs steps beside a mirror, in its thread."""
-        from srcp_bridges import srcp
-        srcp.say = lambda text: None
+        from srcp_bridges.srcp import mirrors
+        mirrors.say = lambda text: None
 
         async def main():
-            mirror = srcp.Mirror(argparse.Namespace(host="127.0.0.1", port=self.way.port, again=0.05))
+            mirror = mirrors.Mirror(argparse.Namespace(host="127.0.0.1", port=self.way.port, again=0.05))
             runs = asyncio.create_task(mirror.run())
             await self.comes(lambda: mirror.here)
             await steps(mirror)
@@ -183,8 +183,8 @@ class Following(Case):
                 await asyncio.sleep(0.01)
 
     def test_stops_are_counted_and_what_was_made_before_is_refused(self):
-        from srcp_bridges.srcp import Refused
-        from srcp_bridges.stop import send, stop_all, stop_one
+        from srcp_bridges.srcp.replies import Refused
+        from srcp_bridges.srcp.stop import send, stop_all, stop_one
 
         async def steps(mirror):
             stops = mirror.stops
@@ -212,8 +212,9 @@ class Following(Case):
         self.run_program(steps)
 
     def test_stop_all_leaves_alone_what_stands_and_reaches_what_is_on_its_way(self):
-        from srcp_bridges.srcp import Refused, Session
-        from srcp_bridges.stop import send, stop_all
+        from srcp_bridges.srcp.replies import Refused
+        from srcp_bridges.srcp.sessions import Session
+        from srcp_bridges.srcp.stop import send, stop_all
 
         async def steps(mirror):
             self.throttle.order(*[f"INIT 1 GL {n} N 1 28 2" for n in (3, 4, 5)], "SET 1 GL 3 0 9 28")
@@ -232,7 +233,7 @@ class Following(Case):
         self.has("100 INFO 1 GL 3 0 0 28")
 
     def test_stop_all_stops_what_another_program_had_sent(self):
-        from srcp_bridges.stop import stop_all
+        from srcp_bridges.srcp.stop import stop_all
 
         async def steps(mirror):
             self.throttle.order("INIT 1 GL 3 N 1 28 2", "SET 1 GL 3 0 9 28")
@@ -245,7 +246,7 @@ class Following(Case):
         self.has("100 INFO 1 GL 3 0 0 28")
 
     def test_stop_all_takes_the_power_off_for_what_another_has_locked(self):
-        from srcp_bridges.stop import stop_all
+        from srcp_bridges.srcp.stop import stop_all
 
         async def steps(mirror):
             self.throttle.order("SET 1 POWER ON", *[f"INIT 1 GL {n} N 1 28 2" for n in (3, 4)], "SET 1 GL 3 1 9 28",
@@ -256,22 +257,22 @@ class Following(Case):
         self.has("100 INFO 1 GL 3 1 9 28", "100 INFO 1 GL 4 0 0 28", "100 INFO 1 POWER OFF stop all")
 
     def test_an_emergency_stop_of_several_tries_each(self):
-        from srcp_bridges.stop import stop_several
+        from srcp_bridges.srcp.stop import stop_several
 
         async def steps(mirror):
             self.throttle.order(*[f"INIT 1 GL {n} N 1 28 2" for n in (3, 4, 5)], "SET 1 LOCK GL 3 0",
                                 "SET 1 LOCK GL 4 0", "SET 1 GL 5 0 9 28")
             await self.comes(lambda: mirror.rows.get((1, "GL", 5, "does"), (0, 0, 0))[2])
             told = await stop_several(mirror, mirror.session.ask, [(1, n) for n in (3, 4, 5)])
-            self.assertEqual([text.partition(":")[0] for text in told], ["1 GL 3", "1 GL 4"])
+            self.assertEqual([fault.whose for fault in told], ["1 GL 3", "1 GL 4"])
         self.run_program(steps)
         self.has("100 INFO 1 GL 5 0 0 28")
 
     def test_a_function_is_a_change_of_one_function(self):
         """The server is asked first how it drives: another may have stopped it, and the panel may be late."""
         from functools import partial
-        from srcp_bridges.driving import switch
-        from srcp_bridges.stop import send
+        from srcp_bridges.srcp.driving import switch
+        from srcp_bridges.srcp.stop import send
 
         async def steps(mirror):
             self.throttle.order("INIT 1 GL 3 N 1 28 3", "SET 1 GL 3 0 9 28 0 1 1")
@@ -286,15 +287,15 @@ class Following(Case):
         self.run_program(steps)
 
     def test_sessions(self):
-        from srcp_bridges import srcp
+        from srcp_bridges.srcp import replies, sessions
 
         async def main():
-            session = await srcp.Session.begin(("127.0.0.1", self.server.port))
+            session = await sessions.Session.begin(("127.0.0.1", self.server.port))
             self.assertEqual(await session.ask("INIT 1 GL 3 N 1 28 2"), "OK")
             self.assertEqual((await session.ask("GET 1 GL 3"))[1:], (1, 0, 0, (0, 0)))
-            with self.assertRaisesRegex(srcp.Refused, "^416 ERROR no data$"):
+            with self.assertRaisesRegex(replies.Refused, "^416 ERROR no data$"):
                 await session.ask("GET 1 GL 4")
-            with self.assertRaises(srcp.Refused):
+            with self.assertRaises(replies.Refused):
                 await session.ask("SET 1 POWER ON\nSET 1 POWER OFF")
             asks = asyncio.create_task(session.ask("GET 1 GL 4"))
             await asyncio.sleep(0)

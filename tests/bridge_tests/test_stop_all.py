@@ -270,8 +270,8 @@ class OfStopAll(unittest.IsolatedAsyncioTestCase):
 
     async def test_the_drivers_are_told_before_the_rows(self):
         """The power of a bus stays as it is, but for one on which another session has a train."""
-        from srcp_bridges.rows import Drive, Lock, Power
-        from srcp_bridges.stop import Stops, stop_all
+        from srcp_bridges.srcp.rows import Drive, Lock, Power
+        from srcp_bridges.srcp.stop import Stops, stop_all
         for lock, power in ((None, "ON"), (Lock(0, 0, 9), "OFF"), (Lock(0, 0, 1), "ON")):
             rows = {(1, "POWER", 0, "does"): Power(0, True, ""), (1, "GL", 3, "does"): Drive(0, 1, 9, 28, ())}
             rows |= {(1, "GL", 3, "lock"): lock} if lock else {}
@@ -291,7 +291,8 @@ class OfStopAll(unittest.IsolatedAsyncioTestCase):
 
     async def test_who_commands_a_train_anew_as_its_rest_is_refused_drives_it(self):
         """Another has it locked, and the reply that refuses the driver comes behind the holder's new command."""
-        from srcp_bridges.rows import Drive, Refused
+        from srcp_bridges.srcp.replies import Refused
+        from srcp_bridges.srcp.rows import Drive
         from srcp_bridges.stations.holds import Holds
         from srcp_bridges.stations.registry import Orders
         part, key = ("cab", 3), (1, "GL", 3, "does")
@@ -300,14 +301,14 @@ class OfStopAll(unittest.IsolatedAsyncioTestCase):
             for row in news:
                 mirror.rows[key] = row
                 holds.take(part, row, False)
-            raise Refused("414 ERROR device locked")
+            raise Refused(414, "414 ERROR device locked")
 
         for news, is_held in (([Drive(2, 1, 0, 126, ()), Drive(3, 1, 41, 126, ())], False), ([], True)):
             for loses in (lambda holds: holds.stop_all(1), lambda holds: holds.lose("overload")):
                 mirror = types.SimpleNamespace(rows={key: Drive(0, 1, 40, 126, ())}, session=True, here=True, ask=ask,
                                                anew=False, way=lambda bus, address: 1)
                 orders = Orders(mirror)
-                holds = Holds(1, mirror, orders)
+                holds = Holds(1, mirror, orders, lambda part: None)
                 holds.station = True
                 loses(holds)
                 holds.rest_all()

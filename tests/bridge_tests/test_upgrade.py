@@ -34,7 +34,7 @@ class WebThatIsUpgraded(ChromiumCase):
     def upgrade(self):
         """Has the program tell by another name what the page needs of it."""
         for path, old, new in (("web.py", '"silence":', '"quiet":'),
-                               ("srcp_bridges/web.js", "beside.silence", "beside.quiet")):
+                               ("srcp_bridges/page/web.js", "beside.silence", "beside.quiet")):
             file = self.programs / path
             text = file.read_text()
             self.assertIn(old, text)

@@ -232,7 +232,7 @@ class Web(WebCase):
     def test_stop_all_and_power_are_behind_nothing_else(self):
         """While a command of the page waits for ever, these two are carried out."""
         import web
-        from srcp_bridges import page
+        from srcp_bridges.page import page
 
         async def main():
             asked = argparse.Namespace(host="127.0.0.1", port=self.server.port, again=0.1, names=None, plan=None,
@@ -359,7 +359,7 @@ class Web(WebCase):
             asked = [self.get(path, **{"Sec-Fetch-Site": site})[0].status for path in ("/", "/events")]
             self.assertEqual(asked, [200, 403])
         self.assertEqual(self.get("/events", Origin="http://evil.example")[0].status, 403)
-        self.assertEqual(self.get("/../srcp.py")[0].status, 404)
+        self.assertEqual(self.get("/../program.py")[0].status, 404)
         self.assertEqual(page.post("SET 1 POWER OFF\nSET 1 POWER ON"), "more than one line")
         self.assertEqual(page.post("TERM 0 SESSION"), "415 ERROR forbidden")
         self.assertEqual(page.post("SET 1 POWER ON " + "x" * 1000), "413")

@@ -8,10 +8,27 @@ import sys
 import tomllib
 
 
+class Train:
+    """How many of the sections of its route a train has entered, and how many of these it has passed."""
+
+    def __init__(self, sections):
+        self.sections = sections
+        self.entered = self.passed = 0
+
+    def sensed(self, sensor, is_on, occupied):
+        """A sensor is told to be 1 or 0, and `occupied` are those that are 1 now. Returns whether the train has passed
+        each section but the last."""
+        if is_on:
+            self.entered += self.sections[self.entered:self.entered + 1] == [sensor]
+        elif self.sections[self.passed] == sensor and self.entered > self.passed + 1:
+            self.passed += self.sections[self.passed + 1] in occupied
+        return self.passed == len(self.sections) - 1
+
+
 class Route:
     """`steps` has what it still orders, each a kind and a command. `asked`: somebody wants it. `leaves`: it goes back,
     and does so to its end, whoever asks meanwhile. `held`: it may hold locks. `is_stuck`: its signal could not be
-    stopped."""
+    stopped. `train`: the one that is followed, or None."""
 
     def __init__(self, bus, given):
         self.bus = bus
@@ -20,6 +37,7 @@ class Route:
         self.blocks = {tuple(block) for block in given.get("blocks", [])}
         self.signal = given.get("signal")
         self.frees = tuple(given.get("frees", []))
+        self.sections = [tuple(section) for section in given.get("sections", [])]
         self.accessories = {turnout[:2] for turnout in self.turnouts}
         if self.signal:
             self.accessories.add((self.signal[0], self.signal[1]))
@@ -42,6 +60,7 @@ class Route:
     def begins_anew(self):
         """A session has begun: no lock is held, and nobody has asked."""
         self.asked = self.leaves = self.held = self.is_stuck = self.is_set = self.goes = False
+        self.train = None
         self.steps = [*self.stop(), self.report(False)]
 
     def goes_forth(self):
@@ -63,6 +82,7 @@ class Route:
             self.steps = [*(self.stop() if may_show else []), self.report(False), *self.unlocks(locks)]
         self.goes = self.is_set = False
         self.leaves = True
+        self.train = None
         self.comes_to_rest()
 
     def comes_to_rest(self):
@@ -106,12 +126,16 @@ class Route:
             self.goes_forth()
         if not self.steps or self.is_stuck or self.steps[0][0] == "show" and not self.blocks <= free:
             return None
-        return self.steps[0][1]
+        kind, command = self.steps[0]
+        if self.goes and kind == ("show" if self.signal else "report") and len(self.sections) > 1:
+            self.train = Train(self.sections)
+        return command
 
 
 class Interlocking:
     """`free` and `occupied` have the sensors that were last told to be 0 or 1; `waits` is the route whose reply is to
-    come. `has_begun`: there was a session; before that nothing counts."""
+    come. `has_begun`: there was a session; before that nothing counts. `trains` counts those that have passed the
+    sections of their routes."""
 
     def __init__(self, plan):
         self.bus = plan["bus"]
@@ -120,6 +144,7 @@ class Interlocking:
         self.occupied = set()
         self.has_begun = False
         self.waits = None
+        self.trains = 0
         self.others = {route: [other for other in self.routes if other is not route and route.conflicts(other)]
                        for route in self.routes}
 
@@ -154,6 +179,10 @@ class Interlocking:
                     route.released()
         for sensors, value in (self.free, False), (self.occupied, True):
             (sensors.add if is_on is value else sensors.discard)(sensor)
+        for route in self.routes if is_on is not None else []:
+            if route.train and not route.leaves and route.train.sensed(sensor, is_on, self.occupied):
+                self.trains += 1
+                route.released()
 
     def pressed(self, number, port):
         for route in self.routes:
