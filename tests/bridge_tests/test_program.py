@@ -346,6 +346,6 @@ class Programming(unittest.TestCase):
             if command[0] == 1 and len(began) > 1:
                 take(None, -1)
 
-        self.assertEqual(self.answers(says, "READ 1", "READ 2", repeats=0.4),
+        self.assertEqual(self.answers(says, "READ 1", "READ 2", repeats=0.2),
                          ["416 no decoder answers", "417 the station does not answer"])
-        self.assertGreater(time.monotonic() - began[2], 0.9)  # of 0.8 seconds and CV_TAKES
+        self.assertGreater(time.monotonic() - began[2], 0.65)  # of 0.4 seconds and CV_TAKES
