@@ -13,7 +13,7 @@ import contextlib
 from collections.abc import Awaitable, Callable, Coroutine
 from typing import Any
 
-from srcp_bridges.limits import ANSWER, PULSE, SOON, STOPS, TURNOUT_PACE
+from srcp_bridges.limits import ANSWER, PORTS_APART, PULSE, SOON, STOPS, TURNOUT_PACE
 from srcp_bridges.plan.interlock import (Accessory, Interlock, RoutePlan, Sensor, locked, reported, server_program,
                                          thrown, thrown_by_hand)
 from srcp_bridges.plan.occupancy import Occupancy
@@ -97,20 +97,21 @@ class Box:
             self.sensed((bus, address), change)
 
     def is_from_others(self, route: int, port: int, change: Change) -> bool:
-        """Returns whether the port of a route's accessory was put by others. If this program put it back as somebody
-        asked again, it is put to 1 once more, so that displays show the route as asked for."""
+        """Returns whether the port of a route's accessory was put by others. The accessory is put once more, so that
+        displays show the route as it is asked for: if this program put it back as somebody asked again, and if both
+        ports were put in one moment, whose stamps do not tell which was the last."""
         if not isinstance(change.row, Port) or not change.row.value:
             return True
-        if (route, port) not in self.own:
-            if port == 1:
-                self.wanted.add(route)
-            else:
-                self.give_up(route)
-            return True
-        self.own.remove((route, port))
-        if port == 0 and route in self.wanted:
-            self.begin(self.put(route, 1))
-        return False
+        if is_own := (route, port) in self.own:
+            self.own.remove((route, port))
+        elif port == 1:
+            self.wanted.add(route)
+        else:
+            self.give_up(route)
+        wanted, other = int(route in self.wanted), self.mirror.rows.get((self.plan.bus, "GA", route, 1 - port))
+        if port != wanted or other and other.value and other.stamp == change.row.stamp:
+            self.begin(self.put_again(route, wanted))
+        return not is_own
 
     def sensed(self, sensor: Sensor, change: Change) -> None:
         """A train comes into a block, or has passed the sensor that frees its route, or the sections of its route."""
@@ -185,6 +186,11 @@ class Box:
         self.own.append((route, port))
         if await self.order(self.mirror, f"SET {self.plan.bus} GA {route} {port} 1 {PULSE}"):
             self.own.remove((route, port))
+
+    async def put_again(self, route: int, port: int) -> None:
+        """Puts the accessory of a route to a port in a later moment than the one that was told."""
+        await asyncio.sleep(PORTS_APART)
+        await self.put(route, port)
 
     def stop(self, route: int, why: str) -> None:
         """Stops the signal of a route that stays set."""

@@ -31,6 +31,8 @@ BOX_BREAKS = [
      "train.told(sensor, bool(row.value), self.occupancy.is_occupied):\n                self.give_up(route)",
      "train.told(sensor, bool(row.value), self.occupancy.is_occupied):\n                pass"),
     ("box", "box", "what sensors tell that are not known counts", " and bus not in self.occupancy.away", ""),
+    ("box", "box", "the later of two ports of one moment is not put once more",
+     " or other and other.value and other.stamp == change.row.stamp:", ":"),
     ("interlock", "box", "sensors of sections are not looked for", ", *self.sections.values())", ")"),
     ("interlock", "box", "sensors of before are not known",
      "            begun.tell_row((bus, \"FB\", address, \"does\"), row)\n",

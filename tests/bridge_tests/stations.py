@@ -59,9 +59,14 @@ class StationCase(Case):
     def joins_again(self):
         """Has the driver lose its panel, and waits until it has taken in a new listing: what changes later comes
         behind."""
-        joined, lies = self.driver.told().count("server: joined"), 1 - self.station.turnouts.get(99, 0)
+        joined = self.driver.told().count("server: joined")
         self.way.cut(), self.way.free()
         until(lambda: self.driver.told().count("server: joined") > joined, "it has joined again")
+        self.goes_on()
+
+    def goes_on(self):
+        """Has the driver tell the station something, behind all that it has told."""
+        lies = 1 - self.station.turnouts.get(99, 0)
         self.throttle.ask("INIT 1 GA 99 N")
         self.throttle.order(f"SET 1 GA 99 {lies} 1 -1")
         self.track(lambda s: s.turnouts.get(99) == lies, "it goes on")
@@ -292,6 +297,10 @@ class Losses(StationCase):
 
 class Hands(StationCase):
     """The table: what a hand throttle at the station does comes into the registry."""
+
+    def setUp(self):
+        super().setUp()
+        self.settles()
 
     def step(self, speed):
         return f"{speed * self.top // 126} {self.top}"

@@ -107,6 +107,14 @@ class BoxOfSections(Case):
             self.hears(panel, "100 INFO 3 FB 1 0", "100 INFO 3 FB 1 1")
             self.assertEqual(position_of(self.server.port, 3, 1), 1)
 
+    def test_who_gives_back_and_asks_again_in_one_moment(self):
+        """Who comes later sees it as asked for, though the stamps do not tell which of the two was the last."""
+        panel = self.begin()
+        self.throttle.flood(["SET 3 GA 1 0 1 250", "SET 3 GA 1 1 1 250"])
+        self.hears(panel, "100 INFO 3 FB 1 0", "100 INFO 3 FB 1 1")
+        self.has("100 INFO 3 GA 1 0 0", "100 INFO 3 GA 1 1 0")
+        self.assertEqual(position_of(self.server.port, 3, 1), 1)
+
     def test_a_train_of_before(self):
         """Nothing is known of it once its route was given back by hand: the route that is set anew stays."""
         panel = self.begin()

@@ -114,6 +114,7 @@ class DccExTelling(Telling, DccExCase):
         self.track(lambda s: self.functions() == {(3, 2)}, "it is switched")
         self.has("100 INFO 1 GL 3 1 0 28 0 0 1")
         self.drives()
+        self.settles()
         report, self.station.report = self.station.report, lambda text: None
         self.station.hand(3, speed=45)
         self.station.report = report
@@ -157,8 +158,10 @@ class DccExTelling(Telling, DccExCase):
         self.assertEqual((self.commands("!", begun), self.station.cabs[3]), ([], (63, 1)))
 
     def test_the_last_functions_do_not_hide_a_speed(self):
-        """With F31 on, the station prints a number below 0."""
-        self.station.say("<l 3 0 200 -2147483643>\r\n")
+        """With F31 on, the station prints a number below 0, also as it is asked."""
+        self.settles()
+        self.station.table[3] = 200, -2147483643
+        self.station.say(self.station.slot(3))
         self.has("100 INFO 1 GL 3 1 71 126 1 0 1")
 
 

@@ -27,6 +27,15 @@ class DccExCase(StationCase):
         self.where = self.link = os.path.join(new_folder(), "ttyACM0")
         return Station(self.link, **self.behaves)
 
+    def settles(self):
+        """Returns once the driver has heard what the station says of all that it was told. What the driver has told
+        again until then is carried out too: it would undo what a hand does."""
+        self.goes_on()
+        for value in (1, 0):
+            self.station.sensor(32, value)
+            self.has(f"100 INFO 1 FB 32 {value}")
+        self.goes_on()
+
 
 class DccEx(Drives, DccExCase):
     def test_speeds_and_functions(self):

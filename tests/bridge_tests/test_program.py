@@ -271,22 +271,22 @@ class Programming(unittest.TestCase):
     def setUp(self):
         self.driving: list[int] = []
 
-    def station(self, says):
+    def station(self, says, repeats=0.1):
         """A station: `says` is called with each command, and with what takes its answers."""
         from srcp_bridges.stations import programming
         track = types.SimpleNamespace(driving=lambda: self.driving)
         line = types.SimpleNamespace(write=lambda command: says(command, made.take))
         ready = types.SimpleNamespace(is_set=lambda: True)
         station = types.SimpleNamespace(track=track, line=line, ready=ready, encode_cv=lambda *asked: asked)
-        made = programming.Programming(station, False, 0.1)
+        made = programming.Programming(station, False, repeats)
         limit = mock.patch.object(programming, "CV_TAKES", 0.5)
         limit.start()
         self.addCleanup(limit.stop)
         return made
 
-    def answers(self, says, *requests):
+    def answers(self, says, *requests, **more):
         async def asked():
-            made = self.station(says)
+            made = self.station(says, **more)
             return [await made.answer(request + "\n") for request in requests]
         return asyncio.run(asked())
 
@@ -324,3 +324,28 @@ class Programming(unittest.TestCase):
             loop.call_later(0.15 if command[0] == 1 else 0.3, take, *((None, -1) if command[0] == 1 else (2, 44)))
 
         self.assertEqual(self.answers(says, "READ 1", "READ 2"), ["416 no decoder answers", "200 44"])
+
+    def test_an_answer_that_was_lost_delays_the_next_but_once(self):
+        """The next request takes one answer for the one that was lost. It is told again, and then believes the next."""
+        told = []
+
+        def says(command, take):
+            told.append(command[0])
+            if len(told) > 1:
+                take(None, -1)
+
+        self.assertEqual(self.answers(says, *[f"READ {cv}" for cv in (1, 2, 3)]), 3 * ["416 no decoder answers"])
+        self.assertLessEqual(max(told.count(cv) for cv in (2, 3)), 2)
+
+    def test_a_request_has_its_whole_time_behind_late_answers(self):
+        """While an answer may be one to the request before, none can be taken for its own."""
+        began = []
+
+        def says(command, take):
+            began.append(time.monotonic())
+            if command[0] == 1 and len(began) > 1:
+                take(None, -1)
+
+        self.assertEqual(self.answers(says, "READ 1", "READ 2", repeats=0.2),
+                         ["416 no decoder answers", "417 the station does not answer"])
+        self.assertGreater(time.monotonic() - began[2], 0.65)  # of 0.4 seconds and CV_TAKES

@@ -43,6 +43,7 @@ class DccEx5(PowerGoes):
 
     def test_a_function_that_has_no_row(self):
         """Its report has the speed nonetheless."""
+        self.settles()
         self.station.hand(3, speed=45, f31=1)
         self.has("100 INFO 1 GL 3 1 45 126")
 

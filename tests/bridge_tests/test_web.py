@@ -36,7 +36,7 @@ class Events:
         self.status = self.stream.status
         if self.status == 200:
             threading.Thread(target=self.read, daemon=True).start()
-            until(lambda: self.key and self.here is not None, "the page has its key")
+            until(lambda: "beat" in self.events, "the page has all rows: the first beat comes behind them")
 
     def connect(self):
         return http.client.HTTPConnection("127.0.0.1", self.port, timeout=WAIT, source_address=(self.own, 0))
@@ -79,10 +79,10 @@ class Events:
             self.stood = data
         elif event == "row" and data["row"]:
             bus, group, address, part = key = tuple(data["key"])
-            self.rows[key] = data["row"]
             for beside, kept in (("stops", self.stops), ("way", self.ways), ("lies", self.lies)):
                 if beside in data:
                     kept[bus, address] = data[beside]
+            self.rows[key] = data["row"]
         elif event == "row":
             self.gone.append(tuple(data["key"]))
             self.rows.pop(tuple(data["key"]), None)
@@ -245,10 +245,11 @@ class Web(WebCase):
             await busy.ask("INIT 1 GL 3 N 1 28 0"), await busy.ask("SET 1 GL 3 1 9 28")
             await busy.turn.acquire()
             waiting = asyncio.create_task(site.obey("/command", "key", "SET 1 GL 3 1 10 28"))
+            told = site.mirror.rows
             async with asyncio.timeout(5):
-                while (1, "GL", 3, "does") not in site.mirror.rows:
-                    await asyncio.sleep(0.02)
                 power = await site.obey("/command", "key", "SET 1 POWER ON")
+                while (1, "GL", 3, "does") not in told or not told[1, "POWER", 0, "does"].on:
+                    await asyncio.sleep(0.02)  # a stop leaves the power as the panel has told it
                 stop = await site.obey("/stop", "key", "")
             self.assertTrue("200 OK" in power[2] and "200 OK" in stop[2] and not waiting.done())
             waiting.cancel(), following.cancel()

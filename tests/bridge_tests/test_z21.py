@@ -23,8 +23,11 @@ class Z21Case(StationCase):
         return Z21(port, **self.behaves)
 
     def drives(self):
-        """Returns once the driver tells nothing again, since all is confirmed."""
         super().drives()
+        self.settles()
+
+    def settles(self):
+        """Returns once the driver tells nothing again, since all is confirmed."""
         self.track(lambda s: time.monotonic() - s.commanded > 2 * QUIET, "all is confirmed")
 
 

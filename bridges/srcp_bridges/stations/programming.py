@@ -40,18 +40,24 @@ class Programming:
         self.turn = asyncio.Lock()
         self.asked: tuple[int, int | None] = 0, None
         self.said: asyncio.Future[int] | None = None
-        self.doubtful = 0.0  # until then an answer that names no CV may be a second one to an earlier command
+        self.late: list[float] = []  # until when each answer may come that earlier requests have not had
 
     # ---- what the station does
 
     def take(self, cv: int | None, value: int) -> None:
         """Takes what the station says of a CV, or of the one that was asked for: its value, or one of WHY."""
-        if not self.said or self.said.done() or cv not in (None, self.asked[0]):
+        if cv is None and self.is_late():
             return
-        if cv is None and asyncio.get_running_loop().time() < self.doubtful:
+        if not self.said or self.said.done() or cv not in (None, self.asked[0]):
             return
         if value < 0 or self.asked[1] in (None, value):
             self.said.set_result(value)
+
+    def is_late(self) -> bool:
+        """Returns whether an answer that names no CV may be one to an earlier request. Then one less is to come."""
+        now = asyncio.get_running_loop().time()
+        self.late = [end for end in self.late if end > now]
+        return bool(self.late and self.late.pop(0))
 
     def lose(self) -> None:
         """The station is away, or has begun anew: what was asked of it has no answer."""
@@ -67,10 +73,12 @@ class Programming:
         return None
 
     async def carry_out(self, cv: int, value: int | None) -> str:
-        """Has the station read a CV, or write a value into it; returns the reply."""
-        self.asked, self.said = (cv, value), asyncio.get_running_loop().create_future()
+        """Has the station read a CV, or write a value into it; returns the reply. Its time counts from when no late
+        answer can come any more: until then one that is dropped may be its own."""
+        loop = asyncio.get_running_loop()
+        self.asked, self.said = (cv, value), loop.create_future()
         try:
-            async with asyncio.timeout(CV_TAKES):
+            async with asyncio.timeout_at(max([loop.time(), *self.late]) + CV_TAKES):
                 return await self.tell(self.said, self.station.encode_cv(cv, value))
         except TimeoutError:
             return f"{Code.TIMEOUT} the station does not answer"
@@ -81,19 +89,18 @@ class Programming:
 
     async def tell(self, said: asyncio.Future[int], command: bytes) -> str:
         """Tells the station a command, again and again if it has to be; returns the reply."""
-        told = 0
+        ends: list[float] = []  # until when each telling may be answered
         try:
             while not said.done():
                 if why := self.refusal():  # a train may have started since the last time
                     return why
                 self.station.line.write(command)
-                told += 1
+                ends.append(asyncio.get_running_loop().time() + 2 * (self.repeats or 0))
                 await asyncio.wait([said], timeout=self.repeats)
             result = said.result()
             return f"{Code.NO_DATA} {WHY[result]}" if result in WHY else f"{Code.OK} {result}"
         finally:
-            if self.repeats and told > 1:
-                self.doubtful = asyncio.get_running_loop().time() + 2 * self.repeats
+            self.late += ends[said.done():]
 
     # ---- the door
 
