@@ -126,6 +126,7 @@ class Programs(StationCase):
 
     def test_program_finds_no_decoder(self):
         self.may()
+        self.station.loses = 0
         self.station.decoder = {}
         for words, told in ((["read", 1], {"R"}), (["write", 1, 3], {"R"}), (["table"], {"R"}),
                             (["--anyway", "write", 1, 3], {"R", "W"})):
