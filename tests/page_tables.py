@@ -270,21 +270,6 @@ def limits_that_stand_once(_):
     return f"not there: {gone}" if gone else None if len(pins) > 30 else f"{len(pins)} limits"
 
 
-def calls_of_the_proofs_page(_):
-    """Each call of a core that the table lists has the clauses that it lists, and no others."""
-    files = [CRATES / "srcp_core/src/server_core.rt", *(CRATES / "srcp_core/src/server_core").glob("*.rt")]
-    code = "".join(file.read_text() for file in files)
-    rows = rows_under("proofs.md", "The calls of a core")
-    listed = {quoted(call)[0]: quoted(clauses) or [""] for call, clauses, _ in rows}
-    for call, clauses in listed.items():
-        head = re.search(rf"^    pub fn {call}\(.*?^    {{$", code, re.M | re.S)
-        found = re.findall(r"^ +ensures\*? ?(\w*) ?{", head[0] if head else "", re.M)
-        if sorted(found) != sorted(clauses):
-            return f"{call}: {clauses} on the page, {found} in the code"
-    public = set(re.findall(r"^    pub fn (\w+)", code, re.M))
-    return None if public == set(listed) else f"the page has {sorted(listed)}, the code {sorted(public)}"
-
-
 def surface_of_the_decisions_page(_: str) -> str | None:
     """Each crate, type, call and variant that the table says to be here stands in crates.txt or in the code."""
     rows = rows_under("DECISIONS.md", "What differs from the first design's surface")
@@ -343,5 +328,4 @@ def steps_to_add_a_key(_: str) -> str | None:
 PAGE_TABLE_CASES = (walk_of_the_architecture_page, limits_of_the_architecture_page, refusals_of_the_architecture_page,
                     limits_of_the_protocol_page, numbers_of_the_commands, texts_of_the_power,
                     limits_of_the_configuration_page, definitions_named_as_constants,
-                    limits_that_stand_once, calls_of_the_proofs_page, surface_of_the_decisions_page,
-                    steps_to_add_a_station, steps_to_add_a_key)
+                    limits_that_stand_once, surface_of_the_decisions_page, steps_to_add_a_station, steps_to_add_a_key)

@@ -18,7 +18,7 @@ from contextlib import ExitStack, contextmanager, suppress
 from pathlib import Path
 from queue import Empty, Queue
 
-from page_tables import PAGE_TABLE_CASES
+from page_tables import PAGE_TABLE_CASES, quoted, rows_under
 from serving import SECONDS, Client, TriedNothing, free_ports, served, wait_for
 
 TOP = Path(__file__).resolve().parent.parent
@@ -253,8 +253,9 @@ def choices_in_a_session(program):
 
 
 def choices_that_cases_show(_):
-    """Each case that the page names is there, and runs with the others."""
+    """Each case that the page names is there, and so is each that the page of the door names in its table."""
     named = re.findall(r"^\|.* \| `([a-z0-9-]+)` \|$", (TOP / "docs" / "protocol.md").read_text(), re.M)
+    named += [case for cases, _ in rows_under("door.md", "What only cases show") for case in quoted(cases)]
     functions = "".join(file.read_text() for file in (TOP / "tests").glob("*.py"))
     missing = [name for name in named if not (TOP / "tests" / "cases" / name).is_dir()
                and f"def {name.replace('-', '_')}(program" not in functions]
