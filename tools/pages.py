@@ -29,7 +29,7 @@ def crates() -> str:
 
 def laws() -> str:
     """Returns the table of the laws of each crate."""
-    rows = ["| Laws of | are those of | and their names are |", "|---|---|---|"]
+    rows = ["| Crate | Laws of | Names |", "|---|---|---|"]
     for file in sorted(CRATES.glob("*/src/laws.rt")):
         crate, subject = file.parts[-3], re.sub(r"^(Laws|A law) of ", "", first_sentence(file))
         names = ", ".join(f"`{name}`" for name in re.findall(r"^pub fn (\w+)", file.read_text(), re.M))
