@@ -18,8 +18,8 @@ FOR_USERS = {TOP / "README.md", *TOP.glob("bridges/*.md"), *(
 # This tells of names that were.
 OF_THE_PAST = TOP / "CHANGELOG.md"
 CALL = r"([A-Za-z_]\w*)(?:\(.*\))?"
-# A name of a file, a crate or a type: `a` of `b`, `a` of the B.
-OF = r"`(\w+)(?:\([^`]*\))?` of (?:(?:the|an?|each|every) )?(?:`([^`]*)`|([A-Z][a-z]\w*))"
+# A name of a file, a crate or a type: `a` of `b`, `a` of the `b`.
+OF = r"`(\w+)(?:\([^`]*\))?` of (?:(?:the|an?|each|every) )?`([^`]*)`"
 # What defines a name in a language: `name` stands for it.
 DEFINES = {".rt": r"(?:fn|struct|enum|trait|type|const|mod|section) (name)\b|^ +(?:pub )?(?:ghost )?(name): |"
                   r"^ +(name)(?:\(.*\))?,|^ +(name) \{$|(?:ensures|invariant)\*? (name) \{",
@@ -122,11 +122,11 @@ def is_defined_in(name, place):
 
 def names_of_places(_):
     """A name that a page says of a file, a crate, a type or a function is defined there. A page says so by `a` of `b`,
-    by `a` of the B, and by `b::a`."""
+    and by `b::a`."""
     count = 0
     for page, text in pages_on_the_present():
         flat = " ".join(text.split())
-        said = [(name, quoted or plain) for name, quoted, plain in re.findall(OF, flat)]
+        said = re.findall(OF, flat)
         said += [(name, place) for place, name in re.findall(r"`([A-Za-z_][\w:]*)::(\w+)(?:\([^`]*\))?`", flat)]
         for name, place in said:
             count += 1
