@@ -10,19 +10,16 @@ CRATES = TOP / "crates"
 CODE = {".rt", ".antt", ".py", ".c", ".h"}
 PLACEHOLDERS = {"F", "X", "NAME"}  # stand for any name, as srcp_X for any crate
 # What others define and pages name: words of Rattle, of Rust's library, of systems and of git.
-OTHERS = {"ArrayVec", "BTreeMap", "Drop", "IfErr", "IfSome", "Net", "OnErr", "SO_KEEPALIVE", "SO_LINGER",
-          "SO_SNDBUF", "TCP_INFO", "TCP_USER_TIMEOUT", "VecDeque", "acl_file", "array_vec_len", "binutils", "console",
-          "ensures",
-          "max_queued_messages", "nc", "push_back", "requires", "result", "return", "ssh", "try_push_back",
-          "SHA256SUMS"}
+OTHERS = {"ArrayVec", "Drop", "IfErr", "IfSome", "Net", "OnErr", "SHA256SUMS", "acl_file", "array_vec_len", "binutils",
+          "console", "ensures", "max_queued_messages", "nc", "requires", "return", "ssh"}
 # A single word of these may be of the protocol or of a system. It is a name of code only if it has the form of one.
 FOR_USERS = {TOP / "README.md", *TOP.glob("bridges/*.md"), *(
     TOP / "docs" / f"{name}.md" for name in ("protocol", "configuration", "install", "replay", "plan"))}
 # This tells of names that were.
 OF_THE_PAST = TOP / "CHANGELOG.md"
 CALL = r"([A-Za-z_]\w*)(?:\(.*\))?"
-# A name of a file, a crate or a type: `a` of `b`, `a` of the B.
-OF = r"`(\w+)(?:\([^`]*\))?` of (?:(?:the|an?|each|every) )?(?:`([^`]*)`|([A-Z][a-z]\w*))"
+# A name of a file, a crate or a type: `a` of `b`, `a` of the `b`.
+OF = r"`(\w+)(?:\([^`]*\))?` of (?:(?:the|an?|each|every) )?`([^`]*)`"
 # What defines a name in a language: `name` stands for it.
 DEFINES = {".rt": r"(?:fn|struct|enum|trait|type|const|mod|section) (name)\b|^ +(?:pub )?(?:ghost )?(name): |"
                   r"^ +(name)(?:\(.*\))?,|^ +(name) \{$|(?:ensures|invariant)\*? (name) \{",
@@ -30,8 +27,7 @@ DEFINES = {".rt": r"(?:fn|struct|enum|trait|type|const|mod|section) (name)\b|^ +
                     r"(name)[◌ ]*(?:[:{(\[]|$)|\b(?:data|record|module|section) (?:pub )?(name)\b",
            ".py": r"^ *(?:def|class) (name)\b|^(name)\b[^=\n]* = |^ +(name): [^=\n]+ = ",
            ".c": r"\b(name)\(", ".h": r"\b(name)\("}
-# What begins a function or a definition, and what begins that or a type or a module of that name.
-CITES = r" *(?:(?:pub|pub\(\w+\)|ghost|abbrev|fn) )+"
+# What begins a function, a definition, a type or a module of that name.
 BEGINS = (r" *(?:(?:pub|pub\(\w+\)|ghost|abbrev|fn|struct|enum|trait|type|mod|record|data|module|section|class|def) )+"
           r"(?:name)\b| *impl\b.*\b(?:name)\b")
 
@@ -119,29 +115,19 @@ def code_of(place):
 
 
 def is_defined_in(name, place):
-    """Returns if a place defines a name: in its code, or in a record that a clause or a definition of its code
-    cites."""
-    pieces = code_of(place)
-    if any(name in names_in(path, code) for path, code in pieces):
-        return True
-    if (CRATES / place).is_dir():
-        return any(name == Path(path).stem for path, _ in pieces)
-    head = re.compile(rf"{CITES}{re.escape(place.rpartition('::')[2])}\b")
-    cited = {word for _, code in pieces if head.match(code) for word in re.findall(r"\b[A-Z][a-z]\w*", code)}
-    return any(name in names_in(path, code) for word in cited for path, code in code_of(word)
-               if re.match(r" *(?:pub )?record ", code))
+    """Returns if the code of a place defines a name. A crate has the names of its files too."""
+    is_crate = (CRATES / place).is_dir()
+    return any(name in names_in(path, code) or is_crate and name == Path(path).stem for path, code in code_of(place))
 
 
 def names_of_places(_):
     """A name that a page says of a file, a crate, a type or a function is defined there. A page says so by `a` of `b`,
-    by `a` of the B, and by `b::a`."""
+    and by `b::a`."""
     count = 0
     for page, text in pages_on_the_present():
         flat = " ".join(text.split())
-        said = [(name, quoted or plain) for name, quoted, plain in re.findall(OF, flat)]
+        said = re.findall(OF, flat)
         said += [(name, place) for place, name in re.findall(r"`([A-Za-z_][\w:]*)::(\w+)(?:\([^`]*\))?`", flat)]
-        for item in re.findall(r"^- `([A-Z]\w+)`: ((?:.+\n?(?!- |\n))*)", text, re.M):
-            said += [(name, item[0]) for name in re.findall(r"`([a-z]\w*)`(?! of\b)", item[1])]
         for name, place in said:
             count += 1
             is_judged = place not in OTHERS and Path(place).suffix in {"", *CODE} and not is_placeholder(name)

@@ -16,6 +16,12 @@ OF_COMMANDS = (("`gl_max` ({} at most)", "GREATEST_GL"), ("`ga_max` ({} at most)
                ("then up to {} functions", "MOST_FUNCTIONS"), ("-1, or 0 to {} ms", "MOST_MILLISECONDS"),
                ("seconds 0 to {} ", "MOST_SECONDS"), ("session id, 0 to {} ", "GREATEST_ID"))
 BYTES_OF_A_TEXT = "bytes 33 to 126, 128 to 255"
+# What its text says of other limits.
+OF_THE_TEXT = (("At most {:,} bytes stand before the LF", "LONGEST_READ"),
+               ("longer than {} bytes with its LF", "LONGEST_LINE"),
+               ("buses of the layout are 1 to {}.", "GREATEST_BUS"), ("V and Vmax are 0 to {}, and", "GREATEST_SPEED"),
+               ("{} changes may wait for a panel.", "MOST_WAITING"), ("has at most {} connections", "MOST_CONNECTIONS"),
+               ("takes {} bytes of a client at once", "MOST_IN_PIECE"))
 # Pages that tell what was, in which a name is no place to change.
 NEWS = {"CHANGELOG.md", "CONTRIBUTING.md", "packaging/changelog"}
 # The numbers that stand bare in the code of a file and are no limits, and what they are.
@@ -158,18 +164,18 @@ def refusals_of_the_architecture_page(_):
     return None
 
 
-def limits_of_the_protocol_page(_):
-    """Each limit that clients are told is one of the table of all limits, or the greatest moment."""
-    known = {value for _, value, *_ in rows_under("architecture.md", "Limits")} | {"1", str(2 ** 64 - 1)}
-    rows = rows_under("protocol.md", "Limits")
-    told = [(limit, number) for limit, value in rows for number in re.findall(r"\d+(?:,\d{3})*", value)]
-    unknown = [(limit, number) for limit, number in told if number not in known]
-    return f"no such limit: {unknown}" if unknown else None if len(told) > 8 else f"{len(rows)} rows"
+def limits_of_the_protocol_page(_: str) -> str | None:
+    """The text says of each limit that clients meet what its constant is set to, and which moment is the greatest."""
+    page = " ".join((TOP / "docs" / "protocol.md").read_text().split())
+    values = {name: value for (_, name), value in constants_of_the_code().items()}
+    said = [f"The greatest moment is {2 ** 64 - 1} ms"]
+    said += [form.format(values[name]) for form, name in OF_THE_TEXT]
+    return next((f"the page does not say {text!r}" for text in said if text not in page), None)
 
 
 def numbers_of_the_commands(_: str) -> str | None:
-    """Each number in the protocol's tables of rows and of commands is what its constant is set to, and V is as great as
-    the page says. No other number stands there, but for the bytes of a text."""
+    """Each number in the protocol's tables of rows and of commands is what its constant is set to. No other number
+    stands there, but for the bytes of a text."""
     values = {name: value for (_, name), value in constants_of_the_code().items()}
     rows = rows_under("protocol.md", "The registry") + rows_under("protocol.md", "Commands")
     told = " ".join(" ".join(row) + " " for row in rows).replace(BYTES_OF_A_TEXT, "")
@@ -177,9 +183,6 @@ def numbers_of_the_commands(_: str) -> str | None:
         if (sentence := form.format(values[name])) not in told:
             return f"{name} is {values[name]}: the tables do not say {sentence!r}"
         told = told.replace(sentence, "")
-    speed = f"V and Vmax are 0 to {values['GREATEST_SPEED']}, and"
-    if speed not in " ".join((TOP / "docs" / "protocol.md").read_text().split()):
-        return f"the page does not say {speed!r}"
     others = re.findall(r"\d{2,}", told)
     return f"numbers of no constant: {others}" if others else None
 
@@ -267,21 +270,6 @@ def limits_that_stand_once(_):
     return f"not there: {gone}" if gone else None if len(pins) > 30 else f"{len(pins)} limits"
 
 
-def calls_of_the_proofs_page(_):
-    """Each call of a core that the table lists has the clauses that it lists, and no others."""
-    files = [CRATES / "srcp_core/src/server_core.rt", *(CRATES / "srcp_core/src/server_core").glob("*.rt")]
-    code = "".join(file.read_text() for file in files)
-    rows = rows_under("proofs.md", "The calls of a core")
-    listed = {quoted(call)[0]: quoted(clauses) or [""] for call, clauses, _ in rows}
-    for call, clauses in listed.items():
-        head = re.search(rf"^    pub fn {call}\(.*?^    {{$", code, re.M | re.S)
-        found = re.findall(r"^ +ensures\*? ?(\w*) ?{", head[0] if head else "", re.M)
-        if sorted(found) != sorted(clauses):
-            return f"{call}: {clauses} on the page, {found} in the code"
-    public = set(re.findall(r"^    pub fn (\w+)", code, re.M))
-    return None if public == set(listed) else f"the page has {sorted(listed)}, the code {sorted(public)}"
-
-
 def surface_of_the_decisions_page(_: str) -> str | None:
     """Each crate, type, call and variant that the table says to be here stands in crates.txt or in the code."""
     rows = rows_under("DECISIONS.md", "What differs from the first design's surface")
@@ -340,5 +328,4 @@ def steps_to_add_a_key(_: str) -> str | None:
 PAGE_TABLE_CASES = (walk_of_the_architecture_page, limits_of_the_architecture_page, refusals_of_the_architecture_page,
                     limits_of_the_protocol_page, numbers_of_the_commands, texts_of_the_power,
                     limits_of_the_configuration_page, definitions_named_as_constants,
-                    limits_that_stand_once, calls_of_the_proofs_page, surface_of_the_decisions_page,
-                    steps_to_add_a_station, steps_to_add_a_key)
+                    limits_that_stand_once, surface_of_the_decisions_page, steps_to_add_a_station, steps_to_add_a_key)
