@@ -238,7 +238,7 @@ turnouts = [[1, 1, 0]]
 signal = [2, 1, 2, 0]
 sections = [[1, 5], [1, 6], [1, 7]]
 """
-BEGINS, SETS, GIVES = ["200 OK GO 2", *["200 OK"] * 2], SETS_1, "100 INFO 9 GA 1 0 1"
+BEGINS, SETS, GIVES, OK = ["200 OK GO 2", *["200 OK"] * 2], SETS_1, "100 INFO 9 GA 1 0 1", "200 OK"
 # What the sensors of its sections tell: 1 by +, 0 by -, and that they are not known by ?.
 GIVES_BACK = (
     "5+ 6+ 5- 7+ 6-", "5+ 6+ 7+ 5- 6-",  # a train that is shorter than two sections, and one that is longer
@@ -263,24 +263,48 @@ def told(words):
 def trains_over_sections(program):
     """A train gives its route back at the sensor by which it leaves the last section but one, and not before. It is
     followed from the command that shows go until the route is given back."""
-    begins, sets, goes = [*BEGINS, "100 INFO 9 GA 1 1 1"], ["200 OK"] * 4, [*BEGINS, *SETS]
+    begins, sets, goes = [*BEGINS, "100 INFO 9 GA 1 1 1"], [OK] * 4, [*BEGINS, *SETS]
     *before, last = told(GIVES_BACK[0])
-    again = [GIVES, *["200 OK"] * 3]
-    freed = [[*goes, *told(words)] for words in GIVES_BACK]
-    freed += [[*begins, *sets[:2], *before[:at], *sets[2:], *before[at:], last] for at in range(5)]
-    freed += [[*goes, *again, *SETS, *before, last]]
-    stay = [[*goes, *told(words)] for words in STAYS]
+    again = [GIVES, *[OK] * 3]
+    freed = [[*goes, *told(words)[:-1], OK, told(words)[-1]] for words in GIVES_BACK]
+    freed += [[*begins, *sets[:2], *before[:at], *sets[2:], OK, *before[at:], OK, last] for at in range(5)]
+    freed += [[*goes, *again, *SETS, *before, OK, last]]
+    stay = [[*goes, *told(words), OK] for words in STAYS]
     stay += [[*begins, *sets[:1], before[0], *sets[1:], *before[1:], last]]  # before the signal shows go
     stay += [[*goes, *before[:at], *again, *SETS, *before[at:], last] for at in range(1, 5)]
     stay += [[*goes, *before[:at], *BEGINS, *SETS, *before[at:], last] for at in range(1, 5)]
     for lines in [each[:-1] for each in freed] + stay:
-        if (got := ordered(program, lines, PLAN_OF_SECTIONS))[-1:] != ORDERS_1[-1:]:
+        if (got := ordered(program, lines, PLAN_OF_SECTIONS))[-1] not in (ORDERS_1[-1], ENDS_1[0]):
             return f"{lines}: {got}"
     for lines in freed:
-        if (got := ordered(program, lines, PLAN_OF_SECTIONS))[-2:] != [ORDERS_1[-1], ENDS_1[0]]:
-            return f"{lines}: {got}, want {ENDS_1[0]}"
+        if (got := ordered(program, lines, PLAN_OF_SECTIONS))[-1] != ENDS_1[1]:
+            return f"{lines}: {got}, want {ENDS_1[1]}"
+    return None
+
+
+def signals_fall_behind_the_head(program):
+    """As a train comes into the first section, the next command stops the signal. It shows go for the next train only
+    once the route is set anew, and falls behind that one too."""
+    begun, goes, comes = [*BEGINS, "100 INFO 9 GA 1 1 1"], [*BEGINS, *SETS], told("5+")
+    first, (*shown, is_set), (falls, *ends) = ORDERS[:2], ORDERS_1, ENDS_1
+    set_1 = [*first, *shown, is_set]
+    asks, refuses = [SETS[0], "100 INFO 9 GA 1 1 1"], "414 ERROR device locked"
+    for lines, want in (
+            ([*goes, *comes], [*set_1, falls]),
+            ([*begun, *[OK] * 3, *comes, OK], [*set_1, falls]),  # it comes before the route is told to be set
+            ([*begun, *[OK] * 2, *comes, *[OK] * 3], [*first, *shown, falls, is_set]),  # .. before go was accepted
+            ([*begun, OK, *comes, *[OK] * 3], set_1),  # .. before go was sent
+            ([*goes, *comes, *asks, OK, *told("5- 5+ 6+ 5-"), *asks, OK], [*set_1, falls]),  # a second train follows
+            ([*goes, *comes, OK, GIVES, *[OK] * 2], [*set_1, falls, *ends]),
+            ([*goes, *comes, GIVES, *[OK] * 3], [*set_1, falls, *ends]),
+            ([*goes, *comes, refuses, OK, GIVES, *[OK] * 3], [*set_1, falls, falls, *ends]),
+            ([*goes, *comes, OK, GIVES, *[OK] * 3, *SETS, *comes], [*set_1, falls, *ends, *shown, is_set, falls])):
+        for plan in PLAN_OF_SECTIONS, PLAN_OF_SECTIONS.replace(", [1, 6], [1, 7]", ""):
+            if (got := ordered(program, lines, plan)) != want:
+                return f"{lines}: {got}, want {want}"
     return None
 
 
 ROUTE_CASES = (routes_as_in_the_model, orders_come_at_once, give_backs_are_carried_out,
-               a_first_word_of_a_sensor_is_no_fall, no_order_before_a_session, trains_over_sections)
+               a_first_word_of_a_sensor_is_no_fall, no_order_before_a_session, trains_over_sections,
+               signals_fall_behind_the_head)

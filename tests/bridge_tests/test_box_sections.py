@@ -49,9 +49,9 @@ class BoxOfSections(Case):
         self.assertEqual((len(kept), position_of(self.server.port, 3, route)), (2, 1), told)
 
     def goes_back(self, panel, *told):
-        """Sensors tell this, and then route 1 is given back."""
+        """Sensors tell this, and then route 1 is given back, whose signal was stopped as its train came."""
         self.tell(*told)
-        self.hears(panel, *GIVES_BACK)
+        self.hears(panel, *GIVES_BACK[1:])
         self.lies_back(1)
 
     def test_a_train_passes_its_sections(self):
@@ -82,6 +82,21 @@ class BoxOfSections(Case):
         self.tell((6, 0))
         self.hears(panel, "100 INFO 3 FB 2 0", *SETS)
         self.lies_back(2)
+
+    def test_a_second_train(self):
+        """The signal stops as the first train comes into the first section, and shows go for no second one, though the
+        route stays set and is asked for again. It does once the route was given back and set anew."""
+        panel = self.begin()
+        self.tell((7, 1))
+        self.hears(panel, GIVES_BACK[0])
+        before = position_of(self.server.port, 2, 1)
+        self.stays(panel, (7, 0))
+        self.ask(1)
+        self.stays(panel, (7, 1), (7, 0), (7, 1))
+        self.assertEqual((before, position_of(self.server.port, 2, 1)), (0, 0))
+        self.goes_back(panel, (5, 1), (7, 0), (8, 1), (5, 0))
+        self.ask(1)
+        self.hears(panel, *SETS)
 
     def test_sensors_that_flicker(self):
         """One alone gives nothing back, whatever section it is of, whether a train is in that section or in none."""
@@ -120,7 +135,7 @@ class BoxOfSections(Case):
         panel = self.begin()
         self.stays(panel, (7, 1), (5, 1), (7, 0))
         self.give(1)
-        self.hears(panel, *GIVES_BACK)
+        self.hears(panel, *GIVES_BACK[1:])
         self.ask(1)
         self.hears(panel, *SETS)
         self.stays(panel, (8, 1), (5, 0))

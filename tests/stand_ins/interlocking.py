@@ -22,13 +22,13 @@ class Train:
             self.entered += self.sections[self.entered:self.entered + 1] == [sensor]
         elif self.sections[self.passed] == sensor and self.entered > self.passed + 1:
             self.passed += self.sections[self.passed + 1] in occupied
-        return self.passed == len(self.sections) - 1
+        return 0 < self.passed == len(self.sections) - 1
 
 
 class Route:
     """`steps` has what it still orders, each a kind and a command. `asked`: somebody wants it. `leaves`: it goes back,
-    and does so to its end, whoever asks meanwhile. `held`: it may hold locks. `is_stuck`: its signal could not be
-    stopped. `train`: the one that is followed, or None."""
+    and does so to its end, whoever asks meanwhile. `held`: it may hold locks. `shows`: its signal shows go. `is_stuck`:
+    that could not be stopped. `train`: the one that is followed, or None."""
 
     def __init__(self, bus, given):
         self.bus = bus
@@ -59,7 +59,7 @@ class Route:
 
     def begins_anew(self):
         """A session has begun: no lock is held, and nobody has asked."""
-        self.asked = self.leaves = self.held = self.is_stuck = self.is_set = self.goes = False
+        self.asked = self.leaves = self.held = self.shows = self.is_stuck = self.is_set = self.goes = False
         self.train = None
         self.steps = [*self.stop(), self.report(False)]
 
@@ -78,9 +78,9 @@ class Route:
         if kind == "lock":
             self.steps = self.unlocks(locks - sum(step[0] == "lock" for step in self.steps))
         else:
-            may_show = kind == "report" or kind == "show" and was_tried
+            may_show = self.shows or kind == "show" and was_tried
             self.steps = [*(self.stop() if may_show else []), self.report(False), *self.unlocks(locks)]
-        self.goes = self.is_set = False
+        self.goes = self.is_set = self.shows = False
         self.leaves = True
         self.train = None
         self.comes_to_rest()
@@ -97,10 +97,12 @@ class Route:
     def replied(self, is_accepted):
         if not is_accepted:
             self.asked = False
-        if self.goes:
+        if self.steps[0][0] == "fall":
+            self.fell(is_accepted)
+        elif self.goes:
             if not is_accepted:
                 return self.goes_back(was_tried=True)
-            self.steps.pop(0)
+            self.shows = self.steps.pop(0)[0] == "show" or self.shows
             if not self.steps:
                 self.goes, self.is_set = False, True
         elif self.steps[0][0] == "stop" and not is_accepted:
@@ -108,6 +110,15 @@ class Route:
         else:
             self.steps.pop(0)
             self.comes_to_rest()
+
+    def fell(self, is_accepted):
+        """The signal was to be stopped behind the head of the train."""
+        if is_accepted:
+            self.steps.pop(0)
+            self.shows = False
+        else:
+            self.goes_back()
+            self.is_stuck = True
 
     def given_back(self):
         self.asked = self.is_stuck = False
@@ -124,10 +135,12 @@ class Route:
             self.goes_back()
         elif self.is_idle() and self.asked and self.blocks <= free and is_clear:
             self.goes_forth()
+        elif self.shows and self.train and self.train.entered:
+            self.steps.insert(0, ("fall", self.stop()[0][1]))
         if not self.steps or self.is_stuck or self.steps[0][0] == "show" and not self.blocks <= free:
             return None
         kind, command = self.steps[0]
-        if self.goes and kind == ("show" if self.signal else "report") and len(self.sections) > 1:
+        if self.goes and kind == ("show" if self.signal else "report") and self.sections:
             self.train = Train(self.sections)
         return command
 

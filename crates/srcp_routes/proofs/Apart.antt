@@ -6,15 +6,17 @@ use Rattle.std.specs.Option.{option_map_or}
 use Rattle.std.specs.Prelude.{fold, if◌then◌else◌, is_some, map, slice_get, slice_set}
 use Rattle.srcp_routes.specs.Conflicts.{are_free, conflicts, meets}
 use Rattle.srcp_routes.specs.Laws.{AreApart, HeldStandAlone}
-use Rattle.srcp_routes.specs.Plan.{Table, conflict_at, is_clear, lets, stage_at, start, wanted_at}
-use Rattle.srcp_routes.specs.Stages.{after_reply, is_held, is_idle, lost_stage, ready_stage, retried_stage}
-use Rattle.srcp_routes.specs.Steps.{after, answered, due, heard, may_begin, sent, stage_replied}
+use Rattle.srcp_routes.specs.Plan.{Table, conflict_at, is_clear, lets, stage_at, start, train_at, wanted_at}
+use Rattle.srcp_routes.specs.Stages.{after_reply, falls, is_held, is_idle, lost_stage, ready_stage, retried_stage}
+use Rattle.srcp_routes.specs.Steps.{after, answered, due, heard, may_begin, ready_in, sent, stage_replied}
+use Rattle.srcp_routes.specs.Trains.{has_entered}
 use Rattle.srcp_routes.specs.declared.interlocking.Event.{Event}
 use Rattle.srcp_routes.specs.declared.interlocking.Event.TheVariants.{Ask, Give, Told, Reply, Lost}
 use Rattle.srcp_routes.specs.declared.route.Route.{Route}
 use Rattle.srcp_routes.specs.declared.route.Signal.{Signal}
 use Rattle.srcp_routes.specs.declared.stage.Stage.{Stage}
 use Rattle.srcp_routes.specs.declared.stage.Stage.TheVariants as stage
+use Rattle.srcp_routes.proofs.Falls.{falls_keeps}
 use Rattle.srcp_routes.proofs.Loops.{all_at}
 use Rattle.srcp_routes.proofs.Places.{at-set, at-set_same}
 
@@ -169,27 +171,31 @@ ready_follows route true free stage.Closing = record { held = λ h. h; idle = λ
 ready_follows route false free stage.Closing = record { held = λ h. h; idle = λ h. h }
 ready_follows route wanted free other = record { held = λ h. refl; idle = λ h. absurd (cc) }
 
+falls_follows : (route : Route) (entered : Bool) (s z : Stage) → Follows s z → Follows s (falls route entered z)
+falls_follows route entered s z follow = falls_keeps (λ x. Follows s x) route entered z
+    (λ some f. record { held = f.held; idle = f.idle }) (λ some f. record { held = f.held; idle = f.idle }) follow
+
 -- only an idle route may begin, and one that is clear
-ready_apart : (t : Table) (n : ℕ) (route : Route) (wanted free begins : Bool) → may_begin t n free ≡ begins → AreApart t
-    → Apart t.routes (slice_set t.stages n (ready_stage route wanted free begins (stage_at t.stages n)))
-ready_apart t n route wanted free true may apart =
-    begun t.routes t.stages n (ready_stage route wanted free true (stage_at t.stages n))
+ready_apart : (t : Table) (n : ℕ) (route : Route) (wanted free begins entered : Bool) → may_begin t n free ≡ begins
+    → AreApart t → Apart t.routes
+    (slice_set t.stages n (falls route entered (ready_stage route wanted free begins (stage_at t.stages n))))
+ready_apart t n route wanted free true entered may apart =
+    begun t.routes t.stages n (falls route entered (ready_stage route wanted free true (stage_at t.stages n)))
     (and_right free (is_clear t.routes t.stages n) (and_right (wanted_at t.wanted n) (free && is_clear t.routes t.stages n)
     (and_right (is_idle (stage_at t.stages n)) (wanted_at t.wanted n && (free && is_clear t.routes t.stages n)) may))) apart
-ready_apart t n route wanted free false may apart =
-    follows t.routes t.stages n (ready_stage route wanted free false (stage_at t.stages n))
-    (ready_follows route wanted free (stage_at t.stages n)) apart
+ready_apart t n route wanted free false entered may apart =
+    follows t.routes t.stages n (falls route entered (ready_stage route wanted free false (stage_at t.stages n)))
+    (falls_follows route entered (stage_at t.stages n) (ready_stage route wanted free false (stage_at t.stages n))
+    (ready_follows route wanted free (stage_at t.stages n))) apart
 
 none_follows : (s : Stage) → Follows s stage.Idle
 none_follows s = record { held = λ h. absurd (cc); idle = λ h. refl }
 
 sent_of : (t : Table) (n : ℕ) (x : Option Route) → AreApart t
-    → Apart t.routes (slice_set t.stages n (option_map_or
-    (λ (route : Route). let free = are_free t.sensors route.blocks.items in
-    ready_stage route (wanted_at t.wanted n) free (may_begin t n free) (stage_at t.stages n)) x stage.Idle))
+    → Apart t.routes (slice_set t.stages n (option_map_or (ready_in t n) x stage.Idle))
 sent_of t n None apart = follows t.routes t.stages n stage.Idle (none_follows (stage_at t.stages n)) apart
 sent_of t n (Some route) apart = ready_apart t n route (wanted_at t.wanted n) (are_free t.sensors route.blocks.items)
-    (may_begin t n (are_free t.sensors route.blocks.items)) refl apart
+    (may_begin t n (are_free t.sensors route.blocks.items)) (has_entered (train_at t.trains n)) refl apart
 
 next_of : (t : Table) (waits : Bool) (d : Option ℕ) → AreApart t
     → AreApart (if waits then record { table = t; order = None } else sent t d).table

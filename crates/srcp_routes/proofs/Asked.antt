@@ -6,11 +6,12 @@ use Rattle.std.proofs.lemmas.Option.{slice_get_within}
 use Rattle.std.specs.Option.{option_map_or}
 use Rattle.std.specs.Prelude.{fold, if◌then◌else◌, is_some, option_and_then, slice_get, slice_set}
 use Rattle.srcp_routes.specs.Conflicts.{is_occupied, is_same, is_vacant}
-use Rattle.srcp_routes.specs.Laws.{AskedAreServed, IsServed, is_asked}
-use Rattle.srcp_routes.specs.Plan.{Table, has_passed, is_freed, stage_at, still_wanted, wanted_at, wanted_behind}
+use Rattle.srcp_routes.specs.Laws.{AskedAreServed, IsServed, WantedAreServed, has_come, is_asked}
+use Rattle.srcp_routes.specs.Plan.{Table, has_passed, is_freed, stage_at, start, still_wanted, wanted_at, wanted_behind}
 use Rattle.srcp_routes.specs.Runs.{Run, asks_heard, is_freed_by, is_passed, run, run_after, run_start}
 use Rattle.srcp_routes.specs.Stages.{is_held, is_idle}
-use Rattle.srcp_routes.specs.Steps.{answered, due, followed, heard, is_renewed, is_taken_up, sent, stage_replied, told}
+use Rattle.srcp_routes.specs.Steps.{after, answered, course, due, followed, heard, is_renewed, is_taken_up, sent}
+use Rattle.srcp_routes.specs.Steps.{stage_replied, told}
 use Rattle.srcp_routes.specs.declared.conflict.Sensed.{Sensed}
 use Rattle.srcp_routes.specs.declared.interlocking.Event.{Event}
 use Rattle.srcp_routes.specs.declared.interlocking.Event.TheVariants.{Ask, Give, Told, Reply, Lost}
@@ -18,7 +19,7 @@ use Rattle.srcp_routes.specs.declared.route.Device.{Device}
 use Rattle.srcp_routes.specs.declared.route.Occupancy.{Occupancy}
 use Rattle.srcp_routes.specs.declared.route.Route.{Route}
 use Rattle.srcp_routes.proofs.Again.{after_else, wanted_else}
-use Rattle.srcp_routes.proofs.Behind.{Follows, after_follows, start_follows}
+use Rattle.srcp_routes.proofs.Behind.{Follows, after_follows, run_follows, start_follows}
 use Rattle.srcp_routes.proofs.Followed.{passed_is, word}
 use Rattle.srcp_routes.proofs.Places.{at-places, at-set_same}
 use Rattle.srcp_routes.proofs.Rest.{IsResting, after_resting, resting_served}
@@ -185,14 +186,34 @@ fold_asks : (routes : List Route) (r : Run) (events : List Event) → Asks route
 fold_asks routes r [] asks = asks
 fold_asks routes r (event ∷ events) asks = fold_asks routes (run_after r event) events (after_asks routes r event asks)
 
-served_at : (routes : List Route) (t : Table) (n : ℕ) (route : Route) → IsResting routes t
-    → slice_get routes n ≡ Some route → is_asked t n ≡ true → IsServed routes t n route
-served_at routes t n route resting is asks = subst (λ (x : List Route). IsServed x t n route) resting.fits.plan
-    (resting_served routes t n route resting (ap (λ (x : List Route). slice_get x n) resting.fits.plan ∙ is) asks)
+-- a route that is asked for in the table of a run, once no order waits for its reply
+served_at : (routes : List Route) (r : Run) (n : ℕ) (route : Route) → Follows routes r → IsResting routes r.table
+    → slice_get routes n ≡ Some route → is_asked r.table n ≡ true → IsServed routes r.table (has_come r n) n route
+served_at routes r n route follows resting is asks =
+    let here : slice_get r.table.routes n ≡ Some route =
+    ap (λ (x : List Route). slice_get x n) resting.fits.plan ∙ is in
+    subst (λ (x : List Route). IsServed x r.table (has_come r n) n route) resting.fits.plan
+    (resting_served routes r.table (has_come r n) n route resting (follows.entered n route here) here asks)
 
 pub asked_are_served : AskedAreServed
 asked_are_served routes events event n route is none asks =
     let all : Asks routes (run routes events) = fold_asks routes (run_start routes) events (start_asks routes) in
-    served_at routes (run_after (run routes events) event).table n route
-    (after_resting routes (run routes events).table event all.follows.sound none) is
-    ((after_asks routes (run routes events) event all).asked n route is asks)
+    let later : Asks routes (run_after (run routes events) event) = after_asks routes (run routes events) event all in
+    served_at routes (run_after (run routes events) event) n route later.follows
+    (after_resting routes (run routes events).table event all.follows.sound none) is (later.asked n route is asks)
+
+-- the table of a run is that of its course
+run_table : (r : Run) (t : Table) (events : List Event) → r.table ≡ t
+    → (fold run_after r events).table ≡ fold after t events
+run_table r t [] same = same
+run_table r t (event ∷ events) same =
+    run_table (run_after r event) (after t event) events (ap (λ (u : Table). after u event) same)
+
+pub wanted_are_served : WantedAreServed
+wanted_are_served routes events event n route is =
+    let r : Run = run_after (run routes events) event in
+    let same : r.table ≡ after (course routes events) event =
+    ap (λ (u : Table). after u event) (run_table (run_start routes) (start routes) events refl) in
+    subst (λ (t : Table). t.waiting ≡ None → is_asked t n ≡ true → IsServed routes t (has_come r n) n route) same
+    (λ none asks. served_at routes r n route (after_follows routes (run routes events) event (run_follows routes events))
+    (after_resting routes (run routes events).table event (run_follows routes events).sound none) is asks)

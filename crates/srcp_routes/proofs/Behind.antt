@@ -1,5 +1,5 @@
 -- A route that has let a train go keeps its locks until the route was given back.
-use Rattle.std.proofs.Common.{◌≡◌, ◌≢◌, ◌⊎◌, inl, inr, ℕ, ◌==◌, ◌<◌, Bool, true, false, not, ◌&&◌, ◌||◌}
+use Rattle.std.proofs.Common.{◌≡◌, ◌≢◌, ◌⊎◌, inl, inr, ℕ, ◌==◌, ◌<◌, Bool, true, false, ◌&&◌, ◌||◌}
 use Rattle.std.proofs.Common.{Option, Some, None, List, [], ◌∷◌, length, refl, sym, ◌∙◌, ap, arith, subst}
 use Rattle.std.proofs.lemmas.Bool.{cases_eq, eq-eqb, ne_eqb}
 use Rattle.std.proofs.lemmas.Option.{slice_get_within}
@@ -10,7 +10,7 @@ use Rattle.srcp_routes.specs.Laws.{FreedBehind, ends}
 use Rattle.srcp_routes.specs.Plan.{Table, stage_at, train_at}
 use Rattle.srcp_routes.specs.Runs.{Run, goes_now, head_heard, is_go, let_go_heard, run, run_after, run_start}
 use Rattle.srcp_routes.specs.Runs.{tail_heard}
-use Rattle.srcp_routes.specs.Stages.{order_of, show_setting, stop_setting, turnout_at}
+use Rattle.srcp_routes.specs.Stages.{order_of, show_setting, stop_setting}
 use Rattle.srcp_routes.specs.Steps.{due, heard, ready_at, sent, step}
 use Rattle.srcp_routes.specs.Trains.{at_start, lets_go}
 use Rattle.srcp_routes.specs.declared.interlocking.Event.{Event}
@@ -18,11 +18,11 @@ use Rattle.srcp_routes.specs.declared.interlocking.Event.TheVariants.{Ask, Give,
 use Rattle.srcp_routes.specs.declared.route.Order.{Order}
 use Rattle.srcp_routes.specs.declared.route.Order.TheVariants as order
 use Rattle.srcp_routes.specs.declared.route.Route.{Route}
-use Rattle.srcp_routes.specs.declared.route.Setting.{Setting}
-use Rattle.srcp_routes.specs.declared.route.Signal.{Signal}
 use Rattle.srcp_routes.specs.declared.stage.Stage.{Stage}
 use Rattle.srcp_routes.specs.declared.stage.Stage.TheVariants as stage
 use Rattle.srcp_routes.specs.declared.train.Train.{Train}
+use Rattle.srcp_routes.proofs.Entered.{AllEntered, and_off, go_is, heard_entered, next_entered, sent_head, start_entered}
+use Rattle.srcp_routes.proofs.Entered.{well_at}
 use Rattle.srcp_routes.proofs.Followed.{AllFollowed, heard_followed, train_of}
 use Rattle.srcp_routes.proofs.Free.{IsKnownRightly, after_free, start_free}
 use Rattle.srcp_routes.proofs.Known.{AllKnown, after_known, answer_routes, start_known}
@@ -31,48 +31,13 @@ use Rattle.srcp_routes.proofs.Open.{AllOpen, heard_open, is_open, next_open}
 use Rattle.srcp_routes.proofs.Pending.{Fits, Pends, PendsAt, Sends, due_sends, heard_fits, step_pends}
 use Rattle.srcp_routes.proofs.Places.{at-replicate, at-set_else, at-set_same}
 use Rattle.srcp_routes.proofs.Sound.{IsSound, after_sound, start_sound}
-use Rattle.srcp_routes.proofs.Well.{heard_sent}
-
--- ---- the order that lets a train go
-
-no_go : {X : Type 0} (f : X → Order) (x : Option X) (routes : List Route) (n : ℕ) (o : Order)
-    → ((y : X) → is_go routes n (Some (f y)) ≡ false) → option_map f x ≡ Some o → is_go routes n (Some o) ≡ false
-no_go f None routes n o each e = absurd (cc)
-no_go f (Some y) routes n o each e = ap (is_go routes n) (sym e) ∙ each y
-
-show_goes : (x : Option Signal) (routes : List Route) (n : ℕ) (o : Order)
-    → option_map (λ signal. order.Show (show_setting signal)) x ≡ Some o → is_go routes n (Some o) ≡ true
-show_goes None routes n o e = absurd (cc)
-show_goes (Some signal) routes n o e = ap (is_go routes n) (sym e)
-
-go_is : (routes : List Route) (n : ℕ) (route : Route) (s : Stage) (o : Order) → slice_get routes n ≡ Some route
-    → order_of route s ≡ Some o → is_go routes n (Some o) ≡ lets_go route s
-go_is routes n route stage.Showing o is e = show_goes route.signal routes n o e
-go_is routes n route stage.Reporting o is e = ap (is_go routes n) (sym e)
-    ∙ ap (λ (x : Option Route). not (option_map_or (λ (a : Route). is_some a.signal) x false)) is
-go_is routes n route stage.Clearing o is e =
-    no_go (λ signal. order.Stop (stop_setting signal)) route.signal routes n o (λ y. refl) e
-go_is routes n route stage.Stopping o is e =
-    no_go (λ signal. order.Stop (stop_setting signal)) route.signal routes n o (λ y. refl) e
-go_is routes n route (stage.Locking done) o is e =
-    no_go (λ (x : Setting). order.Lock x.device) (turnout_at route done) routes n o (λ y. refl) e
-go_is routes n route (stage.Throwing done) o is e =
-    no_go order.Throw (turnout_at route done) routes n o (λ y. refl) e
-go_is routes n route (stage.Unlocking left) o is e =
-    no_go (λ (x : Setting). order.Unlock x.device) (turnout_at route left) routes n o (λ y. refl) e
-go_is routes n route stage.Closing o is e = ap (is_go routes n) (sym e)
-go_is routes n route stage.Hiding o is e = ap (is_go routes n) (sym e)
-go_is routes n route other o is e = absurd (cc)
+use Rattle.srcp_routes.proofs.Well.{AllWell, heard_sent, heard_well}
 
 -- ---- the next order
 
 and_here : (a b c : Bool) → a ≡ c → b ≡ true → (a && b) ≡ c
 and_here true b c e h = h ∙ e
 and_here false b c e h = e
-
-and_off : (a b : Bool) → b ≡ false → (a && b) ≡ false
-and_off true b e = e
-and_off false b e = refl
 
 started : (goes let_go : Bool) (head tail : ℕ) (old : Option Train) → old ≡ train_of let_go head tail
     → (if goes then Some at_start else old)
@@ -86,16 +51,17 @@ sent_train routes o w n let_go head tail = train_of (goes_now routes o w n || le
     (if goes_now routes o w n then 0 else head) (if goes_now routes o w n then 0 else tail)
 
 sent_followed : (routes : List Route) (t : Table) (n m : ℕ) (let_go : Bool) (head tail : ℕ) → (m ≡ n) ⊎ (m ≢ n)
-    → Fits routes t → IsLong routes t → (sends : Sends t n) → train_at t.trains m ≡ train_of let_go head tail
+    → Fits routes t → AllWell t.routes t.stages → IsLong routes t → (sends : Sends t n) → train_at t.trains m ≡ train_of let_go head tail
     → train_at (slice_set t.trains n (next_train t n)) m
     ≡ sent_train t.routes (Some sends.order) (Some n) m let_go head tail
-sent_followed routes t n m let_go head tail (inl same) fits long sends train =
+sent_followed routes t n m let_go head tail (inl same) fits good long sends train =
     let within : n < length t.trains =
     omega (arith, slice_get_within t.routes n sends.route sends.is, long.trains, ap length fits.plan) in
     let goes : goes_now t.routes (Some sends.order) (Some n) m ≡ lets_go sends.route (ready_at t n) =
     and_here (is_go t.routes m (Some sends.order)) (m == n) (lets_go sends.route (ready_at t n))
     (ap (λ (i : ℕ). is_go t.routes i (Some sends.order)) same
-    ∙ go_is t.routes n sends.route (ready_at t n) sends.order sends.is sends.orders) (eq-eqb m n same) in
+    ∙ go_is t.routes n sends.route (ready_at t n) sends.order sends.is (well_at routes t n fits good sends) sends.orders)
+    (eq-eqb m n same) in
     ap (λ (i : ℕ). train_at (slice_set t.trains n (next_train t n)) i) same
     ∙ at-set_same t.trains n (next_train t n) None within
     ∙ ap (λ (x : Option Route). if option_map_or (λ (a : Route). lets_go a (ready_at t n)) x false then Some at_start
@@ -103,24 +69,24 @@ sent_followed routes t n m let_go head tail (inl same) fits long sends train =
     ∙ started (lets_go sends.route (ready_at t n)) let_go head tail (train_at t.trains n)
     (ap (train_at t.trains) (sym same) ∙ train)
     ∙ ap (λ (g : Bool). train_of (g || let_go) (if g then 0 else head) (if g then 0 else tail)) (sym goes)
-sent_followed routes t n m let_go head tail (inr differ) fits long sends train =
+sent_followed routes t n m let_go head tail (inr differ) fits good long sends train =
     let none : goes_now t.routes (Some sends.order) (Some n) m ≡ false =
     and_off (is_go t.routes m (Some sends.order)) (m == n) (ne_eqb m n differ) in
     at-set_else t.trains n m (next_train t n) None differ ∙ train
     ∙ ap (λ (g : Bool). train_of (g || let_go) (if g then 0 else head) (if g then 0 else tail)) (sym none)
 
 next_followed : (routes : List Route) (t : Table) (waits : Bool) (d : Option ℕ) (m : ℕ) (let_go : Bool) (head tail : ℕ)
-    → due t ≡ d → Fits routes t → IsLong routes t → train_at t.trains m ≡ train_of let_go head tail
+    → due t ≡ d → Fits routes t → AllWell t.routes t.stages → IsLong routes t → train_at t.trains m ≡ train_of let_go head tail
     → train_at (if waits then record { table = t; order = None } else sent t d).table.trains m
     ≡ sent_train t.routes (if waits then record { table = t; order = None } else sent t d).order
     (if waits then record { table = t; order = None } else sent t d).table.waiting m let_go head tail
-next_followed routes t true d m let_go head tail is fits long train = train
-next_followed routes t false None m let_go head tail is fits long train = train
-next_followed routes t false (Some n) m let_go head tail is fits long train =
+next_followed routes t true d m let_go head tail is fits good long train = train
+next_followed routes t false None m let_go head tail is fits good long train = train
+next_followed routes t false (Some n) m let_go head tail is fits good long train =
     let sends : Sends t n = due_sends t n is in
     subst (λ (x : Option Order). train_at (slice_set t.trains n (next_train t n)) m
     ≡ sent_train t.routes x (Some n) m let_go head tail) (sym sends.sent)
-    (sent_followed routes t n m let_go head tail (cases_eq m n) fits long sends train)
+    (sent_followed routes t n m let_go head tail (cases_eq m n) fits good long sends train)
 
 -- ---- what holds of each run
 
@@ -132,8 +98,9 @@ pub record Follows (routes : List Route) (r : Run) : Type 0 where
   pub long : IsLong routes r.table
   pub opens : AllOpen r.table
   pub trains : AllFollowed r.table r.let_go r.head r.tail
+  pub entered : AllEntered r.table.routes r.table.stages r.head
 
-heard_routes : (t : Table) (event : Event) → (heard t event).routes ≡ t.routes
+pub heard_routes : (t : Table) (event : Event) → (heard t event).routes ≡ t.routes
 heard_routes t (Ask n) = refl
 heard_routes t (Give n) = refl
 heard_routes t (Told sensor now) = refl
@@ -149,6 +116,11 @@ next_routes t false (Some n) = refl
 pub after_follows : (routes : List Route) (r : Run) (event : Event) → Follows routes r → Follows routes (run_after r event)
 after_follows routes r event follows =
     let fits : Fits routes (heard r.table event) = heard_fits routes r.table event follows.sound.fits in
+    let same : (heard r.table event).routes ≡ r.table.routes = heard_routes r.table event in
+    let trains : AllFollowed (heard r.table event) (let_go_heard r event) (head_heard r event) (tail_heard r event) =
+    λ n route is.
+    let before : slice_get r.table.routes n ≡ Some route = ap (λ (l : List Route). slice_get l n) (sym same) ∙ is in
+    heard_followed r event n route follows.known follows.taken follows.opens before (follows.trains n route before) in
     record {
       sound = after_sound routes r.table event follows.sound;
       pends = step_pends routes r.table r.order event follows.sound.fits follows.pends;
@@ -167,9 +139,15 @@ after_follows routes r event follows =
           (head_heard r event n) (tail_heard r event n)) (heard_routes r.table event)
           (next_followed routes (heard r.table event) (is_some (heard r.table event).waiting) (due (heard r.table event)) n
           (let_go_heard r event n) (head_heard r event n) (tail_heard r event n) refl fits
-          (heard_long routes r.table event follows.sound.fits follows.long)
+          (heard_well r.table event follows.sound.well) (heard_long routes r.table event follows.sound.fits follows.long)
           (heard_followed r event n route follows.known follows.taken follows.opens before
           (follows.trains n route before)));
+      entered = subst (λ (l : List Route). AllEntered (step r.table event).table.routes (step r.table event).table.stages
+          (sent_head l (step r.table event).order (step r.table event).table.waiting (head_heard r event))) same
+          (next_entered routes (heard r.table event) (let_go_heard r event) (head_heard r event) (tail_heard r event)
+          (is_some (heard r.table event).waiting) (due (heard r.table event)) refl fits
+          (heard_well r.table event follows.sound.well) trains
+          (heard_entered routes r event follows.sound.fits follows.entered));
     }
 
 pub start_follows : (routes : List Route) → Follows routes (run_start routes)
@@ -183,6 +161,7 @@ start_follows routes = record {
       let none : train_at (run_start routes).table.trains n ≡ None = at-replicate (length routes) n None in
       let both : false ≡ true = ap (λ (x : Option Train). is_some x) (sym none) ∙ h in absurd (cc);
   trains = λ n route is. at-replicate (length routes) n None;
+  entered = start_entered routes (λ m. 0);
 }
 
 fold_follows : (routes : List Route) (r : Run) (events : List Event) → Follows routes r
@@ -205,6 +184,10 @@ open_ends : (route : Route) (s : Stage) (o : Order) → is_open s ≡ true → o
 open_ends route stage.Showing o h e =
     no_end (λ signal. order.Show (show_setting signal)) route.signal o (λ y. refl) e
 open_ends route stage.Reporting o h e = let is : order.Report route.number true ≡ o = cc in ap ends (sym is)
+open_ends route (stage.Falling told) o h e =
+    no_end (λ signal. order.Stop (stop_setting signal)) route.signal o (λ y. refl) e
+open_ends route (stage.Fallen false) o h e =
+    let is : order.Report route.number true ≡ o = cc in ap ends (sym is)
 open_ends route other o h e = absurd (cc)
 
 order_ends : (r : Run) (n : ℕ) (last : Option Order) (o : Order) → PendsAt r.table last n → last ≡ Some o

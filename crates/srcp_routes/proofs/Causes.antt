@@ -7,8 +7,8 @@ use Rattle.std.specs.Prelude.{if◌then◌else◌, nat_lt, slice_set}
 use Rattle.srcp_routes.specs.Conflicts.{are_free, is_same}
 use Rattle.srcp_routes.specs.Plan.{Table, stage_at, wanted_at}
 use Rattle.srcp_routes.specs.Runs.{Locks, Run, granted, heard_of, locked_sent, order_heard}
-use Rattle.srcp_routes.specs.Stages.{after_reply, count_of, order_of, ready_stage, retried_stage, turnout_at}
-use Rattle.srcp_routes.specs.Steps.{Stepped, answered, heard, may_begin, order_at, ready_at, sent, stage_replied}
+use Rattle.srcp_routes.specs.Stages.{after_reply, count_of, order_of, retried_stage, turnout_at}
+use Rattle.srcp_routes.specs.Steps.{Stepped, answered, heard, may_begin, order_at, ready_at, ready_in, sent, stage_replied}
 use Rattle.srcp_routes.specs.declared.interlocking.Event.{Event}
 use Rattle.srcp_routes.specs.declared.interlocking.Event.TheVariants.{Ask, Give, Told, Reply, Lost}
 use Rattle.srcp_routes.specs.declared.route.Device.{Device}
@@ -18,6 +18,7 @@ use Rattle.srcp_routes.specs.declared.route.Route.{Route}
 use Rattle.srcp_routes.specs.declared.route.Setting.{Setting}
 use Rattle.srcp_routes.specs.declared.stage.Stage.{Stage}
 use Rattle.srcp_routes.specs.declared.stage.Stage.TheVariants as stage
+use Rattle.srcp_routes.proofs.Falls.{in_keeps}
 use Rattle.srcp_routes.proofs.Locks.{replied_locks}
 use Rattle.srcp_routes.proofs.Pending.{Fits, Pends, PendsAt, replied_none, replied_some, replied_to}
 use Rattle.srcp_routes.proofs.Touched.{no_order}
@@ -85,6 +86,8 @@ locks_at route (stage.Unlocking left) device e =
 locks_at route stage.Clearing device e = no_order _ route.signal (order.Lock device) _ (λ y h. cc) e
 locks_at route stage.Showing device e = no_order _ route.signal (order.Lock device) _ (λ y h. cc) e
 locks_at route stage.Stopping device e = no_order _ route.signal (order.Lock device) _ (λ y h. cc) e
+locks_at route (stage.Falling told) device e = no_order _ route.signal (order.Lock device) _ (λ y h. cc) e
+locks_at route (stage.Fallen false) device e = absurd (cc)
 locks_at route other device e = absurd (cc)
 
 now_caused : (route : Route) (s : Stage) (o : Order) (x : Device) → order_of route s ≡ Some o → (grants : Grants o x)
@@ -196,19 +199,17 @@ sent_caused routes t locked n fits all =
     (fits.stages ∙ ap length (sym fits.plan)) (λ m x differ h. sent_less locked (order_at t n) m x h)
     (λ route x is h.
     let cause : HasCause route (stage_at t.stages n) x = all n route x is (sent_less locked (order_at t n) n x h) in
-    let ready : ready_at t n ≡ ready_stage route (wanted_at t.wanted n) (are_free t.sensors route.blocks.items)
-    (may_begin t n (are_free t.sensors route.blocks.items)) (stage_at t.stages n) =
-    ap (λ (r : Option Route). option_map_or
-    (λ (route : Route). let free = are_free t.sensors route.blocks.items in
-    ready_stage route (wanted_at t.wanted n) free (may_begin t n free) (stage_at t.stages n)) r stage.Idle) is in
+    let ready : ready_at t n ≡ ready_in t n route =
+    ap (λ (r : Option Route). option_map_or (ready_in t n) r stage.Idle) is in
     record {
       place = cause.place;
       turnout = cause.turnout;
       at = cause.at;
       same = cause.same;
       may = subst (λ (z : Stage). MayLock z cause.place) (sym ready)
+          (in_keeps (λ z. MayLock z cause.place) t n route (λ some h. h) (λ some h. h)
           (ready_may route (wanted_at t.wanted n) (are_free t.sensors route.blocks.items)
-          (may_begin t n (are_free t.sensors route.blocks.items)) (stage_at t.stages n) cause.place cause.may);
+          (may_begin t n (are_free t.sensors route.blocks.items)) (stage_at t.stages n) cause.place cause.may));
     }) all
 
 -- once the next order is sent

@@ -33,6 +33,7 @@ goes_held stage.Reporting h = refl
 goes_held stage.Set h = refl
 goes_held stage.Stopping h = refl
 goes_held stage.Stuck h = refl
+goes_held (stage.Falling told) h = refl
 goes_held other h = absurd (cc)
 
 reported_held : (s : Stage) → is_reported s ≡ true → is_held s ≡ true
@@ -41,6 +42,8 @@ reported_held stage.Set h = refl
 reported_held stage.Stopping h = refl
 reported_held stage.Stuck h = refl
 reported_held stage.Hiding h = refl
+reported_held (stage.Falling told) h = refl
+reported_held (stage.Fallen told) h = refl
 reported_held other h = absurd (cc)
 
 -- a route that is set is held

@@ -1,5 +1,5 @@
 -- A route that is told to be set is held, until it has told that it is not.
-use Rattle.std.proofs.Common.{◌≡◌, inl, inr, ℕ, ◌==◌, Bool, true, false, not, ◌&&◌}
+use Rattle.std.proofs.Common.{◌≡◌, ◌⊎◌, inl, inr, ℕ, ◌==◌, Bool, true, false, not, ◌&&◌}
 use Rattle.std.proofs.Common.{Option, Some, None, List, refl, sym, ◌∙◌, ap, subst}
 use Rattle.std.proofs.lemmas.Bool.{and_parts, eq-eqb, eqb-true, or_cases}
 use Rattle.std.specs.Option.{option_map_or}
@@ -8,7 +8,7 @@ use Rattle.srcp_routes.specs.Conflicts.{are_free}
 use Rattle.srcp_routes.specs.Plan.{Table, stage_at, wanted_at}
 use Rattle.srcp_routes.specs.Runs.{Run, Signals, hidden, told_heard, told_sent}
 use Rattle.srcp_routes.specs.Stages.{after_reply, order_of, ready_stage, retried_stage, turnout_at}
-use Rattle.srcp_routes.specs.Steps.{Stepped, answered, due, heard, may_begin, ready_at, sent, stage_replied}
+use Rattle.srcp_routes.specs.Steps.{Stepped, answered, due, heard, may_begin, ready_at, ready_in, sent, stage_replied}
 use Rattle.srcp_routes.specs.declared.interlocking.Event.{Event}
 use Rattle.srcp_routes.specs.declared.interlocking.Event.TheVariants.{Ask, Give, Told, Reply, Lost}
 use Rattle.srcp_routes.specs.declared.route.Order.{Order}
@@ -19,6 +19,7 @@ use Rattle.srcp_routes.specs.declared.route.Signal.{Signal}
 use Rattle.srcp_routes.specs.declared.stage.Stage.{Stage}
 use Rattle.srcp_routes.specs.declared.stage.Stage.TheVariants as stage
 use Rattle.srcp_routes.proofs.Apart.{stage_at-set}
+use Rattle.srcp_routes.proofs.Falls.{in_keeps}
 use Rattle.srcp_routes.proofs.Pending.{Fits, Pends, PendsAt, Sends, due_sends}
 use Rattle.srcp_routes.proofs.Touched.{no_order, sends_stage}
 
@@ -29,6 +30,8 @@ is_reported stage.Set = true
 is_reported stage.Stopping = true
 is_reported stage.Stuck = true
 is_reported stage.Hiding = true
+is_reported (stage.Falling told) = true
+is_reported (stage.Fallen told) = true
 is_reported other = false
 
 -- each route that is told to be set is at such a stage
@@ -37,8 +40,10 @@ AllTold stages told = (n : ℕ) → told n ≡ true → is_reported (stage_at st
 
 -- a route is told to be set at the stage at which it reports so
 pub tells : (route : Route) (s : Stage) (number : ℕ) → order_of route s ≡ Some (order.Report number true)
-    → (s ≡ stage.Reporting) × (route.number ≡ number)
-tells route stage.Reporting number e = (refl, cc)
+    → ((s ≡ stage.Reporting) ⊎ (s ≡ stage.Fallen false)) × (route.number ≡ number)
+tells route stage.Reporting number e = (inl refl, cc)
+tells route (stage.Fallen false) number e = (inr refl, cc)
+tells route (stage.Falling told) number e = no_order _ route.signal (order.Report number true) _ (λ y h. cc) e
 tells route stage.Clearing number e = no_order _ route.signal (order.Report number true) _ (λ y h. cc) e
 tells route stage.Showing number e = no_order _ route.signal (order.Report number true) _ (λ y h. cc) e
 tells route stage.Stopping number e = no_order _ route.signal (order.Report number true) _ (λ y h. cc) e
@@ -85,6 +90,11 @@ reply_reported route stage.Stopping o true told n orders at h = refl
 reply_reported route stage.Stopping o false told n orders at h = refl
 reply_reported route stage.Hiding o ok told n orders at h = hidden_off route.number o told n _ orders h
 reply_reported route stage.Set o ok told n orders at h = absurd (cc)
+reply_reported route (stage.Falling done) o true told n orders at h = refl
+reply_reported route (stage.Falling done) o false told n orders at h = refl
+reply_reported route (stage.Fallen false) o true told n orders at h = refl
+reply_reported route (stage.Fallen false) o false told n orders at h = refl
+reply_reported route (stage.Fallen true) o ok told n orders at h = absurd (cc)
 reply_reported route stage.Stuck o ok told n orders at h = absurd (cc)
 reply_reported route other o ok told n orders at h = let no : false ≡ true = at in absurd (cc)
 
@@ -129,6 +139,10 @@ ready_reported route true free begins stage.Reporting h = refl
 ready_reported route false free begins stage.Reporting h = leaving_reported route.signal
 ready_reported route true free begins stage.Set h = refl
 ready_reported route false free begins stage.Set h = leaving_reported route.signal
+ready_reported route true free begins (stage.Falling told) h = refl
+ready_reported route false free begins (stage.Falling told) h = refl
+ready_reported route true free begins (stage.Fallen told) h = refl
+ready_reported route false free begins (stage.Fallen told) h = refl
 ready_reported route true free begins stage.Stopping h = refl
 ready_reported route false free begins stage.Stopping h = refl
 ready_reported route true free begins stage.Stuck h = refl
@@ -137,12 +151,16 @@ ready_reported route true free begins stage.Hiding h = refl
 ready_reported route false free begins stage.Hiding h = refl
 ready_reported route wanted free begins other h = let no : false ≡ true = h in absurd (cc)
 
+tells_reported : (s : Stage) → (s ≡ stage.Reporting) ⊎ (s ≡ stage.Fallen false) → is_reported s ≡ true
+tells_reported s (inl e) = ap is_reported e
+tells_reported s (inr e) = ap is_reported e
+
 order_told : (stages : List Stage) (n : ℕ) (route : Route) (o : Order) (told : Signals)
     → order_of route (stage_at stages n) ≡ Some o → AllTold stages told → AllTold stages (told_sent told (Some o) (Some n))
 order_told stages n route (order.Report number true) told orders all = λ m h. elim (or_cases (m == n) (told m) h) [
   | inl here ↦
       ap (λ (i : ℕ). is_reported (stage_at stages i)) (eqb-true m n here)
-      ∙ ap is_reported (tells route (stage_at stages n) number orders).0
+      ∙ tells_reported (stage_at stages n) (tells route (stage_at stages n) number orders).0
   | inr before ↦ all m before
 ]
 order_told stages n route (order.Report number false) told orders all = all
@@ -151,11 +169,10 @@ order_told stages n route other told orders all = all
 ready_all_told : (t : Table) (n : ℕ) (told : Signals) (sends : Sends t n) → AllTold t.stages told
     → AllTold (slice_set t.stages n (ready_at t n)) told
 ready_all_told t n told sends all = set_told t.stages n (ready_at t n) told told (λ m h. h)
-    (λ h. ap (λ (x : Option Route). is_reported (option_map_or
-    (λ (route : Route). let free = are_free t.sensors route.blocks.items in
-    ready_stage route (wanted_at t.wanted n) free (may_begin t n free) (stage_at t.stages n)) x stage.Idle)) sends.is
-    ∙ ready_reported sends.route (wanted_at t.wanted n) (are_free t.sensors sends.route.blocks.items)
-    (may_begin t n (are_free t.sensors sends.route.blocks.items)) (stage_at t.stages n) (all n h)) all
+    (λ h. ap (λ (x : Option Route). is_reported (option_map_or (ready_in t n) x stage.Idle)) sends.is
+    ∙ in_keeps (λ s. is_reported s ≡ true) t n sends.route (λ some g. refl) (λ some g. refl)
+    (ready_reported sends.route (wanted_at t.wanted n) (are_free t.sensors sends.route.blocks.items)
+    (may_begin t n (are_free t.sensors sends.route.blocks.items)) (stage_at t.stages n) (all n h))) all
 
 sent_told : (routes : List Route) (t : Table) (told : Signals) (n : ℕ) → Fits routes t → Sends t n → AllTold t.stages told
     → AllTold (sent t (Some n)).table.stages (told_sent told (sent t (Some n)).order (Some n))

@@ -6,11 +6,14 @@ pub mod Causes
 pub mod Costs
 pub mod Crossed
 pub mod Crossings
+pub mod Entered
 pub mod Fallen
+pub mod Falls
 pub mod Flickers
 pub mod Followed
 pub mod Free
 pub mod Given
+pub mod Heads
 pub mod Holds
 pub mod Known
 pub mod Left

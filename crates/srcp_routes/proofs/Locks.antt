@@ -14,7 +14,7 @@ use Rattle.srcp_routes.specs.Plan.{Table, conflict_at, stage_at, wanted_at}
 use Rattle.srcp_routes.specs.Runs.{Locks, Run, granted, heard_of, locked_sent}
 use Rattle.srcp_routes.specs.Stages.{after_reply, count_of, is_held, is_idle, lost_stage, order_of, ready_stage, retried_stage}
 use Rattle.srcp_routes.specs.Stages.{turnout_at}
-use Rattle.srcp_routes.specs.Steps.{Stepped, answered, due, heard, may_begin, ready_at, sent, stage_replied}
+use Rattle.srcp_routes.specs.Steps.{Stepped, answered, due, heard, may_begin, ready_at, ready_in, sent, stage_replied}
 use Rattle.srcp_routes.specs.declared.interlocking.Event.{Event}
 use Rattle.srcp_routes.specs.declared.interlocking.Event.TheVariants.{Ask, Give, Told, Reply, Lost}
 use Rattle.srcp_routes.specs.declared.route.Device.{Device}
@@ -26,6 +26,7 @@ use Rattle.srcp_routes.specs.declared.route.Signal.{Signal}
 use Rattle.srcp_routes.specs.declared.stage.Stage.{Stage}
 use Rattle.srcp_routes.specs.declared.stage.Stage.TheVariants as stage
 use Rattle.srcp_routes.proofs.Apart.{stage_at-set, stage_at-set_same, stage_at-start, idle_not_held}
+use Rattle.srcp_routes.proofs.Falls.{in_keeps}
 use Rattle.srcp_routes.proofs.Pending.{Fits, Pends, PendsAt, Sends, due_sends, replied_none, replied_some, replied_to}
 
 -- at this stage the turnout at a place is locked
@@ -249,6 +250,8 @@ unlocks route (stage.Throwing done) device e = no_unlock order.Throw (turnout_at
 unlocks route stage.Clearing device e = no_unlock _ route.signal device _ (λ y h. cc) e
 unlocks route stage.Showing device e = no_unlock _ route.signal device _ (λ y h. cc) e
 unlocks route stage.Stopping device e = no_unlock _ route.signal device _ (λ y h. cc) e
+unlocks route (stage.Falling told) device e = no_unlock _ route.signal device _ (λ y h. cc) e
+unlocks route (stage.Fallen false) device e = absurd (cc)
 unlocks route other device e = absurd (cc)
 
 -- routes that share a turnout conflict
@@ -312,11 +315,10 @@ ready_locked : (t : Table) (n : ℕ) (sends : Sends t n) (locked : Locks) → Al
     → AllLocked t.routes (slice_set t.stages n (ready_at t n)) locked
 ready_locked t n sends locked all = set_locked t.routes t.stages n (ready_at t n) locked locked (λ m x h. h)
     (λ route k turnout is at h. all n route k turnout is at
+    (in_keeps (λ s. has_lock s k ≡ true → has_lock (stage_at t.stages n) k ≡ true) t n route (λ some f. f) (λ some f. f)
     (ready_locks route (wanted_at t.wanted n) (are_free t.sensors route.blocks.items)
-    (may_begin t n (are_free t.sensors route.blocks.items)) (stage_at t.stages n) k turnout at
-    (subst (λ (x : Option Route). has_lock (option_map_or
-    (λ (route : Route). let free = are_free t.sensors route.blocks.items in
-    ready_stage route (wanted_at t.wanted n) free (may_begin t n free) (stage_at t.stages n)) x stage.Idle) k ≡ true) is h))) all
+    (may_begin t n (are_free t.sensors route.blocks.items)) (stage_at t.stages n) k turnout at)
+    (subst (λ (x : Option Route). has_lock (option_map_or (ready_in t n) x stage.Idle) k ≡ true) is h))) all
 
 -- once the next order is sent
 abbrev pub StepLocked : Locks → Stepped → Type 0

@@ -10,7 +10,7 @@ use Rattle.srcp_routes.specs.Plan.{Table, stage_at, train_at, train_behind, trai
 use Rattle.srcp_routes.specs.Plan.{wanted_behind}
 use Rattle.srcp_routes.specs.Stages.{after_reply, is_held, ready_stage, retried_stage}
 use Rattle.srcp_routes.specs.Steps.{answered, due, heard, is_renewed, is_taken_up, may_begin, ready_at, sent}
-use Rattle.srcp_routes.specs.Steps.{stage_replied, told}
+use Rattle.srcp_routes.specs.Steps.{ready_in, stage_replied, told}
 use Rattle.srcp_routes.specs.Trains.{at_start, lets_go, moved}
 use Rattle.srcp_routes.specs.declared.conflict.Sensed.{Sensed}
 use Rattle.srcp_routes.specs.declared.interlocking.Event.{Event}
@@ -23,6 +23,7 @@ use Rattle.srcp_routes.specs.declared.stage.Stage.TheVariants as stage
 use Rattle.srcp_routes.specs.declared.train.Train.{Train}
 use Rattle.srcp_routes.proofs.Again.{after_else, wanted_else}
 use Rattle.srcp_routes.proofs.Apart.{stage_at-set, stage_at-set_same}
+use Rattle.srcp_routes.proofs.Falls.{in_keeps}
 use Rattle.srcp_routes.proofs.Long.{next_train}
 use Rattle.srcp_routes.proofs.Pending.{Fits, Pends, PendsAt, Sends, due_sends}
 use Rattle.srcp_routes.proofs.Places.{at-places_or, at-replicate, at-set, at-set_else, at-set_off}
@@ -35,6 +36,8 @@ abbrev pub is_open : Stage → Bool
 is_open stage.Showing = true
 is_open stage.Reporting = true
 is_open stage.Set = true
+is_open (stage.Falling told) = true
+is_open (stage.Fallen told) = true
 is_open other = false
 
 pub record IsOpen (t : Table) (n : ℕ) : Type 0 where
@@ -48,6 +51,8 @@ pub open_held : (s : Stage) → is_open s ≡ true → is_held s ≡ true
 open_held stage.Showing h = refl
 open_held stage.Reporting h = refl
 open_held stage.Set h = refl
+open_held (stage.Falling told) h = refl
+open_held (stage.Fallen told) h = refl
 open_held other h = absurd (cc)
 
 some_none : (x : Option Train) (P : Type 0) → x ≡ None → is_some x ≡ true → P
@@ -112,6 +117,9 @@ reply_open : (route : Route) (s : Stage) → is_open s ≡ true → is_open (aft
 reply_open route stage.Showing h = refl
 reply_open route stage.Reporting h = refl
 reply_open route stage.Set h = refl
+reply_open route (stage.Falling told) h = refl
+reply_open route (stage.Fallen false) h = refl
+reply_open route (stage.Fallen true) h = refl
 reply_open route other h = absurd (cc)
 
 accepted_open : (t : Table) (last : Option Order) (m n : ℕ) → PendsAt t last m → AllOpen t
@@ -171,6 +179,7 @@ kept_open : (route : Route) (free begins : Bool) (s : Stage) → is_open s ≡ t
 kept_open route free begins stage.Showing h old = absurd (cc)
 kept_open route free begins stage.Reporting h old = refl
 kept_open route free begins stage.Set h old = refl
+kept_open route free begins (stage.Fallen told) h old = refl
 kept_open route free begins other h old = absurd (cc)
 
 go_open : (route : Route) (s : Stage) → lets_go route s ≡ true → is_open s ≡ true
@@ -201,30 +210,29 @@ go_wanted route false free begins other may h = absurd (cc)
 
 -- the stage of the route that sends its order
 ready_is : (t : Table) (n : ℕ) (route : Route) → slice_get t.routes n ≡ Some route
-    → ready_at t n ≡ ready_stage route (wanted_at t.wanted n) (are_free t.sensors route.blocks.items)
-    (may_begin t n (are_free t.sensors route.blocks.items)) (stage_at t.stages n)
-ready_is t n route is = ap (λ (x : Option Route). option_map_or
-    (λ (route : Route). let free = are_free t.sensors route.blocks.items in
-    ready_stage route (wanted_at t.wanted n) free (may_begin t n free) (stage_at t.stages n)) x stage.Idle) is
+    → ready_at t n ≡ ready_in t n route
+ready_is t n route is = ap (λ (x : Option Route). option_map_or (ready_in t n) x stage.Idle) is
 
 sent_open_here : (t : Table) (n : ℕ) (route : Route) (goes : Bool) → slice_get t.routes n ≡ Some route
     → lets_go route (ready_at t n) ≡ goes → fresh (stage_at t.stages n) ≡ false → AllOpen t
     → is_some (if goes then Some at_start else train_at t.trains n) ≡ true
     → (wanted_at t.wanted n ≡ true) × (is_open (ready_at t n) ≡ true)
 sent_open_here t n route true is go old all h = (
-  go_wanted route (wanted_at t.wanted n) (are_free t.sensors route.blocks.items)
+  in_keeps (λ s. lets_go route s ≡ true → wanted_at t.wanted n ≡ true) t n route (λ some f h. absurd (cc))
+      (λ some f h. absurd (cc)) (go_wanted route (wanted_at t.wanted n) (are_free t.sensors route.blocks.items)
       (may_begin t n (are_free t.sensors route.blocks.items)) (stage_at t.stages n)
-      (begins_wanted t n (are_free t.sensors route.blocks.items))
+      (begins_wanted t n (are_free t.sensors route.blocks.items)))
       (ap (lets_go route) (sym (ready_is t n route is)) ∙ go),
   go_open route (ready_at t n) go,
 )
 sent_open_here t n route false is go old all h = (
   (all n h).wanted,
   ap is_open (ready_is t n route is)
-      ∙ subst (λ (w : Bool). is_open (ready_stage route w (are_free t.sensors route.blocks.items)
+      ∙ in_keeps (λ s. is_open s ≡ true) t n route (λ some g. refl) (λ some g. refl)
+      (subst (λ (w : Bool). is_open (ready_stage route w (are_free t.sensors route.blocks.items)
       (may_begin t n (are_free t.sensors route.blocks.items)) (stage_at t.stages n)) ≡ true) (sym (all n h).wanted)
       (kept_open route (are_free t.sensors route.blocks.items) (may_begin t n (are_free t.sensors route.blocks.items))
-      (stage_at t.stages n) (all n h).opens old),
+      (stage_at t.stages n) (all n h).opens old)),
 )
 
 old_some : (x : Option Train) (goes : Bool) → is_some x ≡ true → is_some (if goes then Some at_start else x) ≡ true

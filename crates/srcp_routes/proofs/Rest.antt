@@ -1,4 +1,4 @@
--- Once no order waits for its reply, each route that is asked for is set, or waits for a reason.
+-- Once no order waits for its reply, each route that is wanted is set, or waits for a reason.
 use Rattle.std.proofs.Common.{◌≡◌, ◌≢◌, inl, inr, ℕ, zero, suc, ◌-◌, ◌==◌, ◌<◌, ◌≤◌, Bool, true, false, not, ◌&&◌, ◌||◌}
 use Rattle.std.proofs.Common.{Option, Some, None, List, [], ◌∷◌, length, refl, sym, ◌∙◌, ap, arith, subst}
 use Rattle.std.proofs.lemmas.Bool.{and_parts, eqb-false, eqb-true, not-true, or_cases}
@@ -6,10 +6,10 @@ use Rattle.std.proofs.lemmas.Option.{slice_get_within}
 use Rattle.std.specs.Option.{option_and_then, option_map, option_map_or}
 use Rattle.std.specs.Prelude.{if◌then◌else◌, is_some, slice_get}
 use Rattle.srcp_routes.specs.Conflicts.{are_free}
-use Rattle.srcp_routes.specs.Laws.{IsBehind, IsServed, WantedAreServed, is_asked, is_unstopped, stays}
+use Rattle.srcp_routes.specs.Laws.{IsBehind, IsServed, is_asked, is_unstopped, stands, stays}
 use Rattle.srcp_routes.specs.Plan.{Table, conflict_at, is_clear, lets, stage_at, wanted_at}
 use Rattle.srcp_routes.specs.Stages.{count_of, is_idle, order_of, ready_stage, turnout_at}
-use Rattle.srcp_routes.specs.Steps.{after, course, due, heard, may_begin, order_at, sent}
+use Rattle.srcp_routes.specs.Steps.{after, due, heard, may_begin, order_at, ready_in, sent}
 use Rattle.srcp_routes.specs.declared.interlocking.Event.{Event}
 use Rattle.srcp_routes.specs.declared.route.Order.{Order}
 use Rattle.srcp_routes.specs.declared.route.Order.TheVariants as order
@@ -19,9 +19,10 @@ use Rattle.srcp_routes.specs.declared.route.Signal.{Signal}
 use Rattle.srcp_routes.specs.declared.stage.Stage.{Stage}
 use Rattle.srcp_routes.specs.declared.stage.Stage.TheVariants as stage
 use Rattle.srcp_routes.proofs.Again.{AllBusy, heard_busy}
+use Rattle.srcp_routes.proofs.Falls.{has_fallen, in_keeps}
 use Rattle.srcp_routes.proofs.Loops.{Fails, fails_below, none_found}
 use Rattle.srcp_routes.proofs.Pending.{Fits, heard_fits}
-use Rattle.srcp_routes.proofs.Sound.{IsSound, course_sound}
+use Rattle.srcp_routes.proofs.Sound.{IsSound}
 use Rattle.srcp_routes.proofs.Well.{AllSent, AllWell, below, fresh, heard_sent, heard_well, well}
 
 -- at this stage a route has no order to send
@@ -29,11 +30,12 @@ abbrev pub rests : Bool → Bool → Bool → Stage → Bool
 rests wanted free begins stage.Idle = not begins
 rests wanted free begins stage.Ready = wanted && not free
 rests wanted free begins stage.Set = wanted
+rests wanted free begins (stage.Fallen true) = wanted
 rests wanted free begins stage.Blocked = true
 rests wanted free begins stage.Stuck = true
 rests wanted free begins other = false
 
-mapped : {X : Type 0} → (f : X → Order) (x : Option X) → is_some x ≡ true → is_some (option_map f x) ≡ true
+pub mapped : {X : Type 0} → (f : X → Order) (x : Option X) → is_some x ≡ true → is_some (option_map f x) ≡ true
 mapped f None h = absurd (cc)
 mapped f (Some y) h = refl
 
@@ -94,6 +96,11 @@ must_rest route true free begins stage.Set good old none = refl
 must_rest route false free begins stage.Set good old none =
     let sends : is_some (order_of route (ready_stage route false free begins stage.Set)) ≡ true =
     leaving_sends route route.signal refl in absurd (cc)
+must_rest route wanted free begins (stage.Falling told) good old none = absurd (cc)
+must_rest route true free begins (stage.Fallen true) good old none = refl
+must_rest route false free begins (stage.Fallen true) good old none = absurd (cc)
+must_rest route true free begins (stage.Fallen false) good old none = absurd (cc)
+must_rest route false free begins (stage.Fallen false) good old none = absurd (cc)
 must_rest route wanted free begins stage.Blocked good old none = refl
 must_rest route wanted free begins stage.Stuck good old none = refl
 must_rest route true free begins stage.Clearing good old none =
@@ -147,19 +154,28 @@ pub not_fresh : (stages : List Stage) (waiting : Option ℕ) (n : ℕ) (f : Bool
 not_fresh stages waiting n true is waits all = let both : None ≡ Some n = sym waits ∙ all n is in absurd (cc)
 not_fresh stages waiting n false is waits all = refl
 
+-- a route of a table at rest has no order
+pub none_at : (routes : List Route) (t : Table) (n : ℕ) (route : Route) → IsResting routes t
+    → slice_get t.routes n ≡ Some route → is_some (order_of route (ready_in t n route)) ≡ false
+none_at routes t n route resting is = subst (λ (x : Option Route). is_some (option_and_then
+    (λ (a : Route). order_of a (option_map_or (ready_in t n) x stage.Idle)) x) ≡ false) is
+    (none_found (λ n. is_some (order_at t n)) 0 (length t.routes) n (omega arith)
+    (omega (arith, slice_get_within t.routes n route is)) resting.due)
+
 pub rests_at : (routes : List Route) (t : Table) (n : ℕ) (route : Route) → IsResting routes t
     → slice_get t.routes n ≡ Some route
     → rests (wanted_at t.wanted n) (are_free t.sensors route.blocks.items)
     (may_begin t n (are_free t.sensors route.blocks.items)) (stage_at t.stages n) ≡ true
 rests_at routes t n route resting is =
-    must_rest route (wanted_at t.wanted n) (are_free t.sensors route.blocks.items)
+    in_keeps (λ s. is_some (order_of route s) ≡ false
+    → rests (wanted_at t.wanted n) (are_free t.sensors route.blocks.items)
+    (may_begin t n (are_free t.sensors route.blocks.items)) (stage_at t.stages n) ≡ true) t n route
+    (λ some f none. let sends : is_some (order_of route (stage.Falling false)) ≡ true = mapped _ route.signal some in
+    absurd (cc)) (λ some f none. f refl)
+    (must_rest route (wanted_at t.wanted n) (are_free t.sensors route.blocks.items)
     (may_begin t n (are_free t.sensors route.blocks.items)) (stage_at t.stages n) (resting.well n route is)
-    (not_fresh t.stages t.waiting n (fresh (stage_at t.stages n)) refl resting.waits resting.sent)
-    (subst (λ (x : Option Route). is_some (option_and_then (λ (a : Route). order_of a (option_map_or
-    (λ (route : Route). let free = are_free t.sensors route.blocks.items in
-    ready_stage route (wanted_at t.wanted n) free (may_begin t n free) (stage_at t.stages n)) x stage.Idle)) x) ≡ false) is
-    (none_found (λ n. is_some (order_at t n)) 0 (length t.routes) n (omega arith)
-    (omega (arith, slice_get_within t.routes n route is)) resting.due))
+    (not_fresh t.stages t.waiting n (fresh (stage_at t.stages n)) refl resting.waits resting.sent))
+    (none_at routes t n route resting is)
 
 pub stays_of : (wanted free begins : Bool) (s : Stage) → rests wanted free begins s ≡ true → is_idle s ≡ false
     → stays wanted s ≡ true
@@ -167,6 +183,7 @@ stays_of wanted free begins stage.Idle rest busy = absurd (cc)
 stays_of true free begins stage.Ready rest busy = refl
 stays_of false free begins stage.Ready rest busy = absurd (cc)
 stays_of wanted free begins stage.Set rest busy = rest
+stays_of wanted free begins (stage.Fallen true) rest busy = rest
 stays_of wanted free begins stage.Blocked rest busy = refl
 stays_of wanted free begins stage.Stuck rest busy = refl
 stays_of wanted free begins other rest busy = absurd (cc)
@@ -196,49 +213,61 @@ behind routes t n resting h =
     lets_not (conflict_at t.routes n one.at) (is_idle (stage_at t.stages one.at)) one.fails in
     behind_at routes t n one.at (slice_get t.routes one.at) resting one.lt refl two.0 two.1
 
-idle_served : (routes : List Route) (t : Table) (n : ℕ) (route : Route) (free clear : Bool) → IsResting routes t
-    → are_free t.sensors route.blocks.items ≡ free → is_clear t.routes t.stages n ≡ clear → (free && clear) ≡ false
-    → IsServed t.routes t n route
-idle_served routes t n route false clear resting free is none = inr (inl free)
-idle_served routes t n route true true resting free is none = absurd (cc)
-idle_served routes t n route true false resting free is none = inr (inr (inr (behind routes t n resting is)))
+idle_served : (routes : List Route) (t : Table) (entered : Bool) (n : ℕ) (route : Route) (free clear : Bool)
+    → IsResting routes t → are_free t.sensors route.blocks.items ≡ free → is_clear t.routes t.stages n ≡ clear
+    → (free && clear) ≡ false → IsServed t.routes t entered n route
+idle_served routes t entered n route false clear resting free is none = inr (inl free)
+idle_served routes t entered n route true true resting free is none = absurd (cc)
+idle_served routes t entered n route true false resting free is none =
+    inr (inr (inr (behind routes t n resting is)))
 
-served_of : (routes : List Route) (t : Table) (n : ℕ) (route : Route) (wanted free begins : Bool) (s : Stage)
-    → IsResting routes t → stage_at t.stages n ≡ s → wanted ≡ true → are_free t.sensors route.blocks.items ≡ free
+-- the signal of a route fell only if the train has entered
+abbrev pub Entered : Table → Bool → ℕ → Type 0
+Entered t entered n = has_fallen (stage_at t.stages n) ≡ true → entered ≡ true
+
+served_of : (routes : List Route) (t : Table) (entered : Bool) (n : ℕ) (route : Route) (wanted free begins : Bool)
+    (s : Stage) → IsResting routes t → Entered t entered n → stage_at t.stages n ≡ s → wanted ≡ true
+    → are_free t.sensors route.blocks.items ≡ free
     → (is_idle s && (wanted && (free && is_clear t.routes t.stages n))) ≡ begins
-    → rests wanted free begins s ≡ true → IsServed t.routes t n route
-served_of routes t n route true free false stage.Idle resting is wants blocks may rest =
-    idle_served routes t n route free (is_clear t.routes t.stages n) resting blocks refl may
-served_of routes t n route false free begins stage.Idle resting is wants blocks may rest = absurd (cc)
-served_of routes t n route wanted free true stage.Idle resting is wants blocks may rest = absurd (cc)
-served_of routes t n route wanted free begins stage.Ready resting is wants blocks may rest =
+    → rests wanted free begins s ≡ true → IsServed t.routes t entered n route
+served_of routes t entered n route true free false stage.Idle resting came is wants blocks may rest =
+    idle_served routes t entered n route free (is_clear t.routes t.stages n) resting blocks refl may
+served_of routes t entered n route false free begins stage.Idle resting came is wants blocks may rest = absurd (cc)
+served_of routes t entered n route wanted free true stage.Idle resting came is wants blocks may rest = absurd (cc)
+served_of routes t entered n route wanted free begins stage.Ready resting came is wants blocks may rest =
     inr (inl (blocks ∙ not-true free (and_parts wanted (not free) rest).1))
-served_of routes t n route wanted free begins stage.Set resting is wants blocks may rest = inl is
-served_of routes t n route wanted free begins stage.Blocked resting is wants blocks may rest =
+served_of routes t entered n route wanted free begins stage.Set resting came is wants blocks may rest =
+    inl (ap (stands entered) is)
+served_of routes t entered n route wanted free begins (stage.Fallen true) resting came is wants blocks may rest =
+    inl (ap (stands entered) is ∙ came (ap has_fallen is))
+served_of routes t entered n route wanted free begins stage.Blocked resting came is wants blocks may rest =
     inr (inr (inl (ap is_unstopped is)))
-served_of routes t n route wanted free begins stage.Stuck resting is wants blocks may rest =
+served_of routes t entered n route wanted free begins stage.Stuck resting came is wants blocks may rest =
     inr (inr (inl (ap is_unstopped is)))
-served_of routes t n route wanted free begins other resting is wants blocks may rest = absurd (cc)
+served_of routes t entered n route wanted free begins other resting came is wants blocks may rest = absurd (cc)
 
-wanted_served : (routes : List Route) (t : Table) (n : ℕ) (route : Route) → IsResting routes t
-    → slice_get t.routes n ≡ Some route → wanted_at t.wanted n ≡ true → IsServed t.routes t n route
-wanted_served routes t n route resting is wants =
-    served_of routes t n route (wanted_at t.wanted n) (are_free t.sensors route.blocks.items)
-    (may_begin t n (are_free t.sensors route.blocks.items)) (stage_at t.stages n) resting refl wants refl refl
+wanted_served : (routes : List Route) (t : Table) (entered : Bool) (n : ℕ) (route : Route) → IsResting routes t
+    → Entered t entered n → slice_get t.routes n ≡ Some route → wanted_at t.wanted n ≡ true
+    → IsServed t.routes t entered n route
+wanted_served routes t entered n route resting came is wants =
+    served_of routes t entered n route (wanted_at t.wanted n) (are_free t.sensors route.blocks.items)
+    (may_begin t n (are_free t.sensors route.blocks.items)) (stage_at t.stages n) resting came refl wants refl refl
     (rests_at routes t n route resting is)
 
 -- a route that was given back, and could not end
 pub stays_back : (s : Stage) → stays false s ≡ true → is_unstopped s ≡ true
 stays_back stage.Set h = absurd (cc)
 stays_back stage.Ready h = absurd (cc)
+stays_back (stage.Fallen true) h = absurd (cc)
 stays_back other h = h
 
 -- a route that is asked for again before it ended waits for its signal
-again_served : (routes : List Route) (t : Table) (n : ℕ) (route : Route) (wanted : Bool) → IsResting routes t
-    → slice_get t.routes n ≡ Some route → wanted_at t.wanted n ≡ wanted → wanted_at t.again n ≡ true
-    → IsServed t.routes t n route
-again_served routes t n route true resting is wants again = wanted_served routes t n route resting is wants
-again_served routes t n route false resting is wants again =
+again_served : (routes : List Route) (t : Table) (entered : Bool) (n : ℕ) (route : Route) (wanted : Bool)
+    → IsResting routes t → Entered t entered n → slice_get t.routes n ≡ Some route → wanted_at t.wanted n ≡ wanted
+    → wanted_at t.again n ≡ true → IsServed t.routes t entered n route
+again_served routes t entered n route true resting came is wants again =
+    wanted_served routes t entered n route resting came is wants
+again_served routes t entered n route false resting came is wants again =
     let rest : stays (wanted_at t.wanted n) (stage_at t.stages n) ≡ true =
     stays_of (wanted_at t.wanted n) (are_free t.sensors route.blocks.items)
     (may_begin t n (are_free t.sensors route.blocks.items)) (stage_at t.stages n) (rests_at routes t n route resting is)
@@ -246,12 +275,14 @@ again_served routes t n route false resting is wants again =
     inr (inr (inl (stays_back (stage_at t.stages n)
     (subst (λ (w : Bool). stays w (stage_at t.stages n) ≡ true) wants rest))))
 
-pub resting_served : (routes : List Route) (t : Table) (n : ℕ) (route : Route) → IsResting routes t
-    → slice_get t.routes n ≡ Some route → is_asked t n ≡ true → IsServed t.routes t n route
-resting_served routes t n route resting is asks = elim (or_cases (wanted_at t.wanted n) (wanted_at t.again n) asks) [
-  | inl wants ↦ wanted_served routes t n route resting is wants
-  | inr again ↦ again_served routes t n route (wanted_at t.wanted n) resting is refl again
-]
+pub resting_served : (routes : List Route) (t : Table) (entered : Bool) (n : ℕ) (route : Route) → IsResting routes t
+    → Entered t entered n → slice_get t.routes n ≡ Some route → is_asked t n ≡ true
+    → IsServed t.routes t entered n route
+resting_served routes t entered n route resting came is asks =
+    elim (or_cases (wanted_at t.wanted n) (wanted_at t.again n) asks) [
+      | inl wants ↦ wanted_served routes t entered n route resting came is wants
+      | inr again ↦ again_served routes t entered n route (wanted_at t.wanted n) resting came is refl again
+    ]
 
 -- a table in which no order waits after a step is at rest
 heard_resting : (routes : List Route) (t : Table) (event : Event) → IsSound routes t → (heard t event).waiting ≡ None
@@ -277,12 +308,3 @@ pub after_resting : (routes : List Route) (t : Table) (event : Event) → IsSoun
     → IsResting routes (after t event)
 after_resting routes t event sound none = next_resting routes (heard t event) (heard t event).waiting (due (heard t event))
     refl refl (heard_resting routes t event sound) none
-
-in_plan : (routes : List Route) (t : Table) (n : ℕ) (route : Route) → IsResting routes t → slice_get routes n ≡ Some route
-    → is_asked t n ≡ true → IsServed routes t n route
-in_plan routes t n route resting is wants = subst (λ (x : List Route). IsServed x t n route) resting.fits.plan
-    (resting_served routes t n route resting (ap (λ (x : List Route). slice_get x n) resting.fits.plan ∙ is) wants)
-
-pub wanted_are_served : WantedAreServed
-wanted_are_served routes events event n route is none wants = in_plan routes (after (course routes events) event) n route
-    (after_resting routes (course routes events) event (course_sound routes events) none) is wants

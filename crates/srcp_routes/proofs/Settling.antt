@@ -8,9 +8,9 @@ use Rattle.std.specs.Prelude.{fold, if◌then◌else◌, is_some, map, slice_get
 use Rattle.srcp_routes.specs.Conflicts.{are_free}
 use Rattle.srcp_routes.specs.Laws.{RepliesSettle}
 use Rattle.srcp_routes.specs.Plan.{Table, is_clear, stage_at, wanted_at}
-use Rattle.srcp_routes.specs.Stages.{after_reply, count_of, is_idle, order_of, ready_stage}
+use Rattle.srcp_routes.specs.Stages.{after_reply, count_of, is_idle, order_of}
 use Rattle.srcp_routes.specs.Steps.{after, again_after, answered, course, due, heard, is_renewed, may_begin, ready_at, sent}
-use Rattle.srcp_routes.specs.Steps.{stage_replied, wanted_after}
+use Rattle.srcp_routes.specs.Steps.{ready_in, stage_replied, wanted_after}
 use Rattle.srcp_routes.specs.declared.interlocking.Event.TheVariants.{Reply}
 use Rattle.srcp_routes.specs.declared.route.Order.{Order}
 use Rattle.srcp_routes.specs.declared.route.Route.{Route}
@@ -20,6 +20,7 @@ use Rattle.srcp_routes.proofs.Again.{after_else, wanted_off}
 use Rattle.srcp_routes.proofs.Apart.{stage_at-set, stage_at-set_same}
 use Rattle.srcp_routes.proofs.Costs.{accepted_cost, cost, cost_at, extra, idle_cost, ready_cost, refused_cost, total_le}
 use Rattle.srcp_routes.proofs.Costs.{total_less, work}
+use Rattle.srcp_routes.proofs.Falls.{in_keeps}
 use Rattle.srcp_routes.proofs.Pending.{Fits, Pends, PendsAt, heard_fits}
 use Rattle.srcp_routes.proofs.Rest.{IsResting, after_resting, not_fresh}
 use Rattle.srcp_routes.proofs.Sound.{IsSound, after_sound, course_sound}
@@ -141,17 +142,16 @@ sent_le_some : (t : Table) (n : ℕ) (route : Route) → AllWell t.routes t.stag
     → cost (count_of route) (wanted_at t.wanted n) (ready_at t n)
     ≤ cost (count_of route) (wanted_at t.wanted n) (stage_at t.stages n)
 sent_le_some t n route good all waits is =
-    let now : ready_at t n ≡ ready_stage route (wanted_at t.wanted n) (are_free t.sensors route.blocks.items)
-    (may_begin t n (are_free t.sensors route.blocks.items)) (stage_at t.stages n) =
-    ap (λ (x : Option Route). option_map_or
-    (λ (route : Route). let free = are_free t.sensors route.blocks.items in
-    ready_stage route (wanted_at t.wanted n) free (may_begin t n free) (stage_at t.stages n)) x stage.Idle) is in
+    let now : ready_at t n ≡ ready_in t n route =
+    ap (λ (x : Option Route). option_map_or (ready_in t n) x stage.Idle) is in
     subst (λ (s : Stage). cost (count_of route) (wanted_at t.wanted n) s
     ≤ cost (count_of route) (wanted_at t.wanted n) (stage_at t.stages n)) (sym now)
+    (in_keeps (λ s. cost (count_of route) (wanted_at t.wanted n) s
+    ≤ cost (count_of route) (wanted_at t.wanted n) (stage_at t.stages n)) t n route (λ some le. le) (λ some le. le)
     (ready_cost route (wanted_at t.wanted n) (are_free t.sensors route.blocks.items)
     (may_begin t n (are_free t.sensors route.blocks.items)) (stage_at t.stages n)
     (begins_wanted t n (are_free t.sensors route.blocks.items))
-    (not_fresh t.stages t.waiting n (fresh (stage_at t.stages n)) refl waits all) (good n route is))
+    (not_fresh t.stages t.waiting n (fresh (stage_at t.stages n)) refl waits all) (good n route is)))
 
 abbrev sent_table : Table → ℕ → Table
 sent_table t k = (sent t (Some k)).table

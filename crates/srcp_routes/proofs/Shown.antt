@@ -6,11 +6,11 @@ use Rattle.std.specs.Option.{option_map_or}
 use Rattle.std.specs.Prelude.{if◌then◌else◌, is_some, slice_get}
 use Rattle.srcp_routes.specs.Conflicts.{are_free, is_free, is_same, is_vacant}
 use Rattle.srcp_routes.specs.Laws.{IsShownRightly, IsThrownAndLocked, IsToldRightly, SetIsTold, ShownAreKept, ShownStand}
-use Rattle.srcp_routes.specs.Laws.{ShowsAreFree, touched}
+use Rattle.srcp_routes.specs.Laws.{ShowsAreFree, has_come, touched}
 use Rattle.srcp_routes.specs.Plan.{Table, is_clear, stage_at, wanted_at}
 use Rattle.srcp_routes.specs.Runs.{Run, run, run_after}
 use Rattle.srcp_routes.specs.Stages.{is_idle, ready_stage, turnout_at}
-use Rattle.srcp_routes.specs.Steps.{due, heard, may_begin, ready_at, sent}
+use Rattle.srcp_routes.specs.Steps.{due, heard, may_begin, ready_at, ready_in, sent}
 use Rattle.srcp_routes.specs.declared.interlocking.Event.{Event}
 use Rattle.srcp_routes.specs.declared.route.Device.{Device}
 use Rattle.srcp_routes.specs.declared.route.Order.{Order}
@@ -20,7 +20,9 @@ use Rattle.srcp_routes.specs.declared.route.Setting.{Setting}
 use Rattle.srcp_routes.specs.declared.route.Signal.{Signal}
 use Rattle.srcp_routes.specs.declared.stage.Stage.{Stage}
 use Rattle.srcp_routes.specs.declared.stage.Stage.TheVariants as stage
+use Rattle.srcp_routes.proofs.Behind.{Follows, run_follows}
 use Rattle.srcp_routes.proofs.Crossings.{tells}
+use Rattle.srcp_routes.proofs.Falls.{has_fallen, in_keeps}
 use Rattle.srcp_routes.proofs.Free.{heard_free}
 use Rattle.srcp_routes.proofs.Holds.{Holds, run_holds}
 use Rattle.srcp_routes.proofs.Locks.{has_lock}
@@ -37,6 +39,7 @@ goes_locked stage.Reporting k h = refl
 goes_locked stage.Set k h = refl
 goes_locked stage.Stopping k h = refl
 goes_locked stage.Stuck k h = refl
+goes_locked (stage.Falling told) k h = refl
 goes_locked other k h = absurd (cc)
 
 goes_thrown : (s : Stage) (k : ℕ) → goes false s ≡ true → has_thrown s k ≡ true
@@ -45,6 +48,7 @@ goes_thrown stage.Reporting k h = refl
 goes_thrown stage.Set k h = refl
 goes_thrown stage.Stopping k h = refl
 goes_thrown stage.Stuck k h = refl
+goes_thrown (stage.Falling told) k h = refl
 goes_thrown other k h = absurd (cc)
 
 pub in_plan : (routes : List Route) (t : Table) (n : ℕ) (route : Route) → Fits routes t → slice_get routes n ≡ Some route
@@ -61,33 +65,54 @@ stands routes r n route place turnout holds h is at =
       thrown = holds.thrown n route place turnout here at (goes_thrown (stage_at r.table.stages n) place may.goes);
     }
 
-told_rightly : (routes : List Route) (r : Run) (number n : ℕ) → Holds routes r → r.table.waiting ≡ Some n
-    → (pends : PendsAt r.table r.order n) → (stage_at r.table.stages n ≡ stage.Reporting) × (pends.route.number ≡ number)
-    → IsToldRightly routes r number
-told_rightly routes r number n holds waits pends at = record {
+-- a route is told to be set at one of these stages
+abbrev Tells : Stage → Type 0
+Tells s = (s ≡ stage.Reporting) ⊎ (s ≡ stage.Fallen false)
+
+tells_lock : (s : Stage) (k : ℕ) → Tells s → has_lock s k ≡ true
+tells_lock s k (inl e) = ap (λ (z : Stage). has_lock z k) e
+tells_lock s k (inr e) = ap (λ (z : Stage). has_lock z k) e
+
+tells_thrown : (s : Stage) (k : ℕ) → Tells s → has_thrown s k ≡ true
+tells_thrown s k (inl e) = ap (λ (z : Stage). has_thrown z k) e
+tells_thrown s k (inr e) = ap (λ (z : Stage). has_thrown z k) e
+
+-- then its signal shows "go", unless its train has entered
+tells_lit : (s : Stage) (come lit : Bool) → Tells s → (is_told s ≡ true → lit ≡ true)
+    → (has_fallen s ≡ true → come ≡ true) → come ≡ false → lit ≡ true
+tells_lit s come lit (inl e) told came none = told (ap is_told e)
+tells_lit s come lit (inr e) told came none =
+    let both : false ≡ true = sym none ∙ came (ap has_fallen e) in absurd (cc)
+
+told_rightly : (routes : List Route) (r : Run) (number n : ℕ) → Holds routes r → Follows routes r
+    → r.table.waiting ≡ Some n → (pends : PendsAt r.table r.order n)
+    → Tells (stage_at r.table.stages n) × (pends.route.number ≡ number) → IsToldRightly routes r number
+told_rightly routes r number n holds follows waits pends at = record {
   teller = n;
   route = pends.route;
   tells = waits;
   is = ap (λ (x : List Route). slice_get x n) (sym holds.fits.plan) ∙ pends.is;
   named = at.1;
   stand = λ place turnout turns. record {
-    locked = holds.locked n pends.route place turnout pends.is turns (ap (λ (s : Stage). has_lock s place) at.0);
-    thrown = holds.thrown n pends.route place turnout pends.is turns (ap (λ (s : Stage). has_thrown s place) at.0);
+    locked = holds.locked n pends.route place turnout pends.is turns (tells_lock (stage_at r.table.stages n) place at.0);
+    thrown = holds.thrown n pends.route place turnout pends.is turns (tells_thrown (stage_at r.table.stages n) place at.0);
   };
-  lit = λ some. holds.lit n pends.route pends.is some (ap is_told at.0);
+  lit = λ some. tells_lit (stage_at r.table.stages n) (has_come r n) (r.lit n) at.0
+      (holds.lit n pends.route pends.is some) (follows.entered n pends.route pends.is);
 }
 
-told_by : (routes : List Route) (r : Run) (number : ℕ) (x : Option ℕ) → Holds routes r → r.table.waiting ≡ x
+told_by : (routes : List Route) (r : Run) (number : ℕ) (x : Option ℕ) → Holds routes r → Follows routes r
+    → r.table.waiting ≡ x
     → Pends r.table r.order x → r.order ≡ Some (order.Report number true) → IsToldRightly routes r number
-told_by routes r number None holds waits pends e = absurd (cc)
-told_by routes r number (Some n) holds waits pends e =
+told_by routes r number None holds follows waits pends e = absurd (cc)
+told_by routes r number (Some n) holds follows waits pends e =
     let same : Some pends.order ≡ Some (order.Report number true) = sym pends.waits ∙ e in
-    told_rightly routes r number n holds waits pends
+    told_rightly routes r number n holds follows waits pends
     (tells pends.route (stage_at r.table.stages n) number (pends.orders ∙ same))
 
 pub set_is_told : SetIsTold
 set_is_told routes events number e = told_by routes (run routes events) number (run routes events).table.waiting
-    (run_holds routes events) refl (run_holds routes events).pends e
+    (run_holds routes events) (run_follows routes events) refl (run_holds routes events).pends e
 
 pub shown_stand : ShownStand
 shown_stand routes events n route place turnout h is at =
@@ -171,11 +196,11 @@ all_free sensors (first ∷ blocks) (suc k) block h at =
 
 ready_free : (t : Table) (n : ℕ) (route : Route) → slice_get t.routes n ≡ Some route → ready_at t n ≡ stage.Showing
     → are_free t.sensors route.blocks.items ≡ true
-ready_free t n route is e = showing_free t n route (wanted_at t.wanted n) (are_free t.sensors route.blocks.items)
-    (may_begin t n (are_free t.sensors route.blocks.items)) (stage_at t.stages n) refl
-    (subst (λ (x : Option Route). option_map_or
-    (λ (route : Route). let free = are_free t.sensors route.blocks.items in
-    ready_stage route (wanted_at t.wanted n) free (may_begin t n free) (stage_at t.stages n)) x stage.Idle
+ready_free t n route is e = in_keeps (λ s. s ≡ stage.Showing → are_free t.sensors route.blocks.items ≡ true) t n route
+    (λ some f g. absurd (cc)) (λ some f g. absurd (cc))
+    (showing_free t n route (wanted_at t.wanted n) (are_free t.sensors route.blocks.items)
+    (may_begin t n (are_free t.sensors route.blocks.items)) (stage_at t.stages n) refl)
+    (subst (λ (x : Option Route). option_map_or (ready_in t n) x stage.Idle
     ≡ stage.Showing) is e)
 
 shown_by : (routes : List Route) (r : Run) (event : Event) (setting : Setting) (n : ℕ) → Holds routes r

@@ -9,7 +9,7 @@ use Rattle.srcp_routes.specs.Plan.{Table, stage_at, wanted_at}
 use Rattle.srcp_routes.specs.Runs.{Run, Signals, has_signal, heard_of, signals_sent, stopped}
 use Rattle.srcp_routes.specs.Stages.{after_reply, lost_stage, order_of, ready_stage, retried_stage, show_setting}
 use Rattle.srcp_routes.specs.Stages.{stop_setting, turnout_at}
-use Rattle.srcp_routes.specs.Steps.{Stepped, answered, due, heard, may_begin, ready_at, sent, stage_replied}
+use Rattle.srcp_routes.specs.Steps.{Stepped, answered, due, heard, may_begin, ready_at, ready_in, sent, stage_replied}
 use Rattle.srcp_routes.specs.declared.interlocking.Event.{Event}
 use Rattle.srcp_routes.specs.declared.interlocking.Event.TheVariants.{Ask, Give, Told, Reply, Lost}
 use Rattle.srcp_routes.specs.declared.route.Order.{Order}
@@ -20,6 +20,7 @@ use Rattle.srcp_routes.specs.declared.route.Signal.{Signal}
 use Rattle.srcp_routes.specs.declared.stage.Stage.{Stage}
 use Rattle.srcp_routes.specs.declared.stage.Stage.TheVariants as stage
 use Rattle.srcp_routes.proofs.Apart.{stage_at-set}
+use Rattle.srcp_routes.proofs.Falls.{in_keeps}
 use Rattle.srcp_routes.proofs.Pending.{Fits, Pends, PendsAt, Sends, due_sends, replied_none, replied_some, replied_to}
 use Rattle.srcp_routes.proofs.Touched.{goes, no_order, sends_stage}
 
@@ -62,6 +63,8 @@ reply_goes lost route stage.Showing o false going n orders at h = refl
 reply_goes lost route stage.Reporting o true going n orders at h = refl
 reply_goes lost route stage.Reporting o false going n orders at h = leaving_goes lost route.signal at.signal
 reply_goes lost route stage.Stopping o true going n orders at h = stop_off route.signal o going n _ orders h
+reply_goes lost route (stage.Falling told) o true going n orders at h = stop_off route.signal o going n _ orders h
+reply_goes lost route (stage.Falling told) o false going n orders at h = refl
 reply_goes lost route stage.Stopping o false going n orders at h = refl
 reply_goes lost route stage.Blocked o ok going n orders at h = absurd (cc)
 reply_goes lost route stage.Set o ok going n orders at h = absurd (cc)
@@ -79,6 +82,8 @@ ready_goes lost route true free begins stage.Reporting at = refl
 ready_goes lost route false free begins stage.Reporting at = leaving_goes lost route.signal at.signal
 ready_goes lost route true free begins stage.Set at = refl
 ready_goes lost route false free begins stage.Set at = leaving_goes lost route.signal at.signal
+ready_goes lost route true free begins (stage.Falling told) at = refl
+ready_goes lost route false free begins (stage.Falling told) at = refl
 ready_goes lost route true free begins stage.Stopping at = refl
 ready_goes lost route false free begins stage.Stopping at = refl
 ready_goes lost route true free begins stage.Stuck at = refl
@@ -207,6 +212,8 @@ pub shows : (route : Route) (s : Stage) (setting : Setting) → order_of route s
 shows route stage.Showing setting e = shows_by route route.signal setting refl e
 shows route stage.Clearing setting e = no_order _ route.signal (order.Show setting) _ (λ y h. cc) e
 shows route stage.Stopping setting e = no_order _ route.signal (order.Show setting) _ (λ y h. cc) e
+shows route (stage.Falling told) setting e = no_order _ route.signal (order.Show setting) _ (λ y h. cc) e
+shows route (stage.Fallen false) setting e = absurd (cc)
 shows route (stage.Locking done) setting e =
     no_order (λ (x : Setting). order.Lock x.device) (turnout_at route done) (order.Show setting) _ (λ y h. cc) e
 shows route (stage.Throwing done) setting e =
@@ -246,11 +253,10 @@ ready_all_go lost t n going all = set_goes lost t.routes t.stages n (ready_at t 
     let at : GoesAt lost route (stage_at t.stages n) = all n route is h in
     record {
       signal = at.signal;
-      goes = ap (λ (x : Option Route). goes lost (option_map_or
-          (λ (route : Route). let free = are_free t.sensors route.blocks.items in
-          ready_stage route (wanted_at t.wanted n) free (may_begin t n free) (stage_at t.stages n)) x stage.Idle)) is
-          ∙ ready_goes lost route (wanted_at t.wanted n) (are_free t.sensors route.blocks.items)
-          (may_begin t n (are_free t.sensors route.blocks.items)) (stage_at t.stages n) at;
+      goes = ap (λ (x : Option Route). goes lost (option_map_or (ready_in t n) x stage.Idle)) is
+          ∙ in_keeps (λ s. goes lost s ≡ true) t n route (λ some g. refl) (λ some g. refl)
+          (ready_goes lost route (wanted_at t.wanted n) (are_free t.sensors route.blocks.items)
+          (may_begin t n (are_free t.sensors route.blocks.items)) (stage_at t.stages n) at);
     }) all
 
 -- once the next order is sent

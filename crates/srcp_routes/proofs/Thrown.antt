@@ -33,6 +33,8 @@ has_thrown stage.Reporting k = true
 has_thrown stage.Set k = true
 has_thrown stage.Stopping k = true
 has_thrown stage.Stuck k = true
+has_thrown (stage.Falling told) k = true
+has_thrown (stage.Fallen told) k = true
 has_thrown other k = false
 
 -- each turnout that is thrown at the stage of its route is thrown

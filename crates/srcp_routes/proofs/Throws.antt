@@ -1,5 +1,5 @@
 -- A turnout is thrown only while its route holds its lock.
-use Rattle.std.proofs.Common.{◌≡◌, ◌≢◌, ℕ, true, Option, Some, None, List, refl, sym, ◌∙◌, ap}
+use Rattle.std.proofs.Common.{◌≡◌, ◌≢◌, ℕ, true, false, Option, Some, None, List, refl, sym, ◌∙◌, ap}
 use Rattle.std.specs.Option.{option_map}
 use Rattle.std.specs.Prelude.{slice_get}
 use Rattle.srcp_routes.specs.Laws.{IsThrownRightly, ThrowsAreLocked}
@@ -44,6 +44,8 @@ throws route (stage.Unlocking left) setting e =
 throws route stage.Clearing setting e = no_throw _ route.signal setting _ (λ y h. cc) e
 throws route stage.Showing setting e = no_throw _ route.signal setting _ (λ y h. cc) e
 throws route stage.Stopping setting e = no_throw _ route.signal setting _ (λ y h. cc) e
+throws route (stage.Falling told) setting e = no_throw _ route.signal setting _ (λ y h. cc) e
+throws route (stage.Fallen false) setting e = absurd (cc)
 throws route other setting e = absurd (cc)
 
 rightly : (routes : List Route) (r : Run) (setting : Setting) (n : ℕ) → Holds routes r → r.table.waiting ≡ Some n

@@ -10,7 +10,7 @@ use Rattle.srcp_routes.specs.Plan.{Table, stage_at, wanted_at}
 use Rattle.srcp_routes.specs.Runs.{Run, Signals, heard_of, lit}
 use Rattle.srcp_routes.specs.Stages.{after_reply, count_of, is_held, lost_stage, order_of, ready_stage, retried_stage}
 use Rattle.srcp_routes.specs.Stages.{show_setting}
-use Rattle.srcp_routes.specs.Steps.{answered, heard, may_begin, ready_at, sent, stage_replied}
+use Rattle.srcp_routes.specs.Steps.{answered, heard, may_begin, ready_at, ready_in, sent, stage_replied}
 use Rattle.srcp_routes.specs.declared.interlocking.Event.{Event}
 use Rattle.srcp_routes.specs.declared.interlocking.Event.TheVariants.{Ask, Give, Told, Reply, Lost}
 use Rattle.srcp_routes.specs.declared.route.Order.{Order}
@@ -20,6 +20,7 @@ use Rattle.srcp_routes.specs.declared.route.Signal.{Signal}
 use Rattle.srcp_routes.specs.declared.stage.Stage.{Stage}
 use Rattle.srcp_routes.specs.declared.stage.Stage.TheVariants as stage
 use Rattle.srcp_routes.proofs.Apart.{stage_at-set, stage_at-set_same, stage_at-start}
+use Rattle.srcp_routes.proofs.Falls.{in_keeps}
 use Rattle.srcp_routes.proofs.Pending.{Fits, Pends, PendsAt, replied_none, replied_some, replied_to}
 
 -- at this stage a route is told to be set, or was
@@ -111,6 +112,10 @@ reply_lit route stage.Showing o true on n orders some h was = shows_on route.sig
 reply_lit route stage.Showing o false on n orders some h was = absurd (cc)
 reply_lit route stage.Reporting o true on n orders some h was = reports_on route.number o on n orders (was refl)
 reply_lit route stage.Reporting o false on n orders some h was = leaving_silent _ route.signal h
+reply_lit route (stage.Falling told) o true on n orders some h was = absurd (cc)
+reply_lit route (stage.Falling told) o false on n orders some h was = absurd (cc)
+reply_lit route (stage.Fallen false) o true on n orders some h was = absurd (cc)
+reply_lit route (stage.Fallen false) o false on n orders some h was = absurd (cc)
 reply_lit route stage.Stopping o true on n orders some h was = absurd (cc)
 reply_lit route stage.Stopping o false on n orders some h was = absurd (cc)
 reply_lit route other o ok on n orders some h was = absurd (cc)
@@ -224,11 +229,10 @@ sent_lit : (routes : List Route) (t : Table) (on : Signals) (n : ℕ) → Fits r
 sent_lit routes t on n fits all =
     set_lit t.routes t.stages n (ready_at t n) on on (fits.stages ∙ ap length (sym fits.plan)) (λ m differ h. h)
     (λ route is some h. all n route is some
-    (ready_told route (wanted_at t.wanted n) (are_free t.sensors route.blocks.items)
-    (may_begin t n (are_free t.sensors route.blocks.items)) (stage_at t.stages n) some
-    (subst (λ (x : Option Route). is_told (option_map_or
-    (λ (route : Route). let free = are_free t.sensors route.blocks.items in
-    ready_stage route (wanted_at t.wanted n) free (may_begin t n free) (stage_at t.stages n)) x stage.Idle) ≡ true) is h))) all
+    (in_keeps (λ s. is_told s ≡ true → is_told (stage_at t.stages n) ≡ true) t n route (λ has f g. absurd (cc))
+    (λ has f g. absurd (cc)) (ready_told route (wanted_at t.wanted n) (are_free t.sensors route.blocks.items)
+    (may_begin t n (are_free t.sensors route.blocks.items)) (stage_at t.stages n) some)
+    (subst (λ (x : Option Route). is_told (option_map_or (ready_in t n) x stage.Idle) ≡ true) is h))) all
 
 pub next_lit : (routes : List Route) (t : Table) (on : Signals) (waits : Bool) (d : Option ℕ) → Fits routes t
     → AllLit t.routes t.stages on

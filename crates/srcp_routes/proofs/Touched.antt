@@ -9,8 +9,8 @@ use Rattle.srcp_routes.specs.Conflicts.{are_free, is_same}
 use Rattle.srcp_routes.specs.Laws.{AreApart, touched}
 use Rattle.srcp_routes.specs.Plan.{Table, conflict_at, stage_at, wanted_at}
 use Rattle.srcp_routes.specs.Runs.{Throws, thrown_sent}
-use Rattle.srcp_routes.specs.Stages.{is_held, is_idle, order_of, ready_stage, turnout_at}
-use Rattle.srcp_routes.specs.Steps.{Stepped, due, may_begin, ready_at, sent}
+use Rattle.srcp_routes.specs.Stages.{is_held, is_idle, order_of, turnout_at}
+use Rattle.srcp_routes.specs.Steps.{Stepped, due, may_begin, ready_at, ready_in, sent}
 use Rattle.srcp_routes.specs.declared.route.Device.{Device}
 use Rattle.srcp_routes.specs.declared.route.Order.{Order}
 use Rattle.srcp_routes.specs.declared.route.Order.TheVariants as order
@@ -19,6 +19,7 @@ use Rattle.srcp_routes.specs.declared.route.Setting.{Setting}
 use Rattle.srcp_routes.specs.declared.stage.Stage.{Stage}
 use Rattle.srcp_routes.specs.declared.stage.Stage.TheVariants as stage
 use Rattle.srcp_routes.proofs.Apart.{stage_at-set_same}
+use Rattle.srcp_routes.proofs.Falls.{in_keeps}
 use Rattle.srcp_routes.proofs.Locks.{share}
 use Rattle.srcp_routes.proofs.Pending.{Fits, Sends, due_sends}
 use Rattle.srcp_routes.proofs.Thrown.{AllThrown, has_thrown, ready_thrown, set_thrown}
@@ -32,6 +33,7 @@ goes lost stage.Reporting = true
 goes lost stage.Set = true
 goes lost stage.Stopping = true
 goes lost stage.Stuck = true
+goes lost (stage.Falling told) = true
 goes lost other = false
 
 -- a route touches one of its turnouts: it is held, and its signal shows "stop"
@@ -78,6 +80,8 @@ touches route (stage.Unlocking left) o device orders e = touches_at route (stage
 touches route stage.Clearing o device orders e = no_touch _ route.signal o device _ (λ y. refl) orders e
 touches route stage.Showing o device orders e = no_touch _ route.signal o device _ (λ y. refl) orders e
 touches route stage.Stopping o device orders e = no_touch _ route.signal o device _ (λ y. refl) orders e
+touches route (stage.Falling told) o device orders e = no_touch _ route.signal o device _ (λ y. refl) orders e
+touches route (stage.Fallen false) o device orders e = no_report _ o device _ refl orders e
 touches route stage.Closing o device orders e = no_report _ o device _ refl orders e
 touches route stage.Hiding o device orders e = no_report _ o device _ refl orders e
 touches route stage.Reporting o device orders e = no_report _ o device _ refl orders e
@@ -119,6 +123,9 @@ lock_thrown route (stage.Throwing done) device k e =
     no_order order.Throw (turnout_at route done) (order.Lock device) _ (λ y h. cc) e
 lock_thrown route stage.Showing device k e = no_order _ route.signal (order.Lock device) _ (λ y h. cc) e
 lock_thrown route stage.Stopping device k e = no_order _ route.signal (order.Lock device) _ (λ y h. cc) e
+lock_thrown route (stage.Falling told) device k e = no_order _ route.signal (order.Lock device) _ (λ y h. cc) e
+lock_thrown route (stage.Fallen false) device k e = absurd (cc)
+lock_thrown route (stage.Fallen true) device k e = absurd (cc)
 lock_thrown route stage.Ready device k e = absurd (cc)
 lock_thrown route stage.Reporting device k e = absurd (cc)
 lock_thrown route stage.Set device k e = absurd (cc)
@@ -131,6 +138,9 @@ unlock_thrown route (stage.Throwing done) device k e =
     no_order order.Throw (turnout_at route done) (order.Unlock device) _ (λ y h. cc) e
 unlock_thrown route stage.Showing device k e = no_order _ route.signal (order.Unlock device) _ (λ y h. cc) e
 unlock_thrown route stage.Stopping device k e = no_order _ route.signal (order.Unlock device) _ (λ y h. cc) e
+unlock_thrown route (stage.Falling told) device k e = no_order _ route.signal (order.Unlock device) _ (λ y h. cc) e
+unlock_thrown route (stage.Fallen false) device k e = absurd (cc)
+unlock_thrown route (stage.Fallen true) device k e = absurd (cc)
 unlock_thrown route stage.Ready device k e = absurd (cc)
 unlock_thrown route stage.Reporting device k e = absurd (cc)
 unlock_thrown route stage.Set device k e = absurd (cc)
@@ -177,11 +187,10 @@ ready_all_thrown : (t : Table) (n : ℕ) (thrown : Throws) → AllThrown t.route
     → AllThrown t.routes (slice_set t.stages n (ready_at t n)) thrown
 ready_all_thrown t n thrown all = set_thrown t.routes t.stages n (ready_at t n) thrown thrown (λ m x h. h)
     (λ route k turnout is at h. all n route k turnout is at
-    (ready_thrown route (wanted_at t.wanted n) (are_free t.sensors route.blocks.items)
-    (may_begin t n (are_free t.sensors route.blocks.items)) (stage_at t.stages n) k turnout at
-    (subst (λ (x : Option Route). has_thrown (option_map_or
-    (λ (route : Route). let free = are_free t.sensors route.blocks.items in
-    ready_stage route (wanted_at t.wanted n) free (may_begin t n free) (stage_at t.stages n)) x stage.Idle) k ≡ true) is h))) all
+    (in_keeps (λ s. has_thrown s k ≡ true → has_thrown (stage_at t.stages n) k ≡ true) t n route (λ some f. f)
+    (λ some f. f) (ready_thrown route (wanted_at t.wanted n) (are_free t.sensors route.blocks.items)
+    (may_begin t n (are_free t.sensors route.blocks.items)) (stage_at t.stages n) k turnout at)
+    (subst (λ (x : Option Route). has_thrown (option_map_or (ready_in t n) x stage.Idle) k ≡ true) is h))) all
 
 -- the stage in which a route sends its order
 pub sends_stage : (routes : List Route) (t : Table) (n : ℕ) → Fits routes t → (sends : Sends t n)

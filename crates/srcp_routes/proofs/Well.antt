@@ -9,7 +9,7 @@ use Rattle.srcp_routes.specs.Conflicts.{are_free}
 use Rattle.srcp_routes.specs.Plan.{Table, stage_at, wanted_at}
 use Rattle.srcp_routes.specs.Stages.{after_reply, count_of, is_held, lost_stage, order_of, ready_stage}
 use Rattle.srcp_routes.specs.Stages.{retried_stage}
-use Rattle.srcp_routes.specs.Steps.{answered, heard, may_begin, ready_at, sent, stage_replied}
+use Rattle.srcp_routes.specs.Steps.{answered, heard, may_begin, ready_at, ready_in, sent, stage_replied}
 use Rattle.srcp_routes.specs.declared.interlocking.Event.{Event}
 use Rattle.srcp_routes.specs.declared.interlocking.Event.TheVariants.{Ask, Give, Told, Reply, Lost}
 use Rattle.srcp_routes.specs.declared.route.Order.{Order}
@@ -18,6 +18,7 @@ use Rattle.srcp_routes.specs.declared.route.Signal.{Signal}
 use Rattle.srcp_routes.specs.declared.stage.Stage.{Stage}
 use Rattle.srcp_routes.specs.declared.stage.Stage.TheVariants as stage
 use Rattle.srcp_routes.proofs.Apart.{stage_at-set, stage_at-set_same, stage_at-start}
+use Rattle.srcp_routes.proofs.Falls.{in_keeps}
 use Rattle.srcp_routes.proofs.Pending.{Fits, Pends, PendsAt}
 use Rattle.srcp_routes.proofs.Signals.{start_stage}
 
@@ -29,6 +30,8 @@ well route stage.Ready = is_some route.signal
 well route stage.Showing = is_some route.signal
 well route stage.Stopping = is_some route.signal
 well route stage.Stuck = is_some route.signal
+well route (stage.Falling told) = is_some route.signal
+well route (stage.Fallen told) = is_some route.signal
 well route (stage.Locking done) = nat_lt done (count_of route)
 well route (stage.Throwing done) = nat_lt done (count_of route)
 well route (stage.Unlocking left) = nat_lt left (count_of route)
@@ -104,6 +107,12 @@ reply_well route stage.Set true h = refl
 reply_well route stage.Set false h = refl
 reply_well route stage.Stopping true h = refl
 reply_well route stage.Stopping false h = h
+reply_well route (stage.Falling told) true h = h
+reply_well route (stage.Falling told) false h = h
+reply_well route (stage.Fallen false) true h = h
+reply_well route (stage.Fallen false) false h = refl
+reply_well route (stage.Fallen true) true h = h
+reply_well route (stage.Fallen true) false h = h
 reply_well route stage.Stuck true h = h
 reply_well route stage.Stuck false h = h
 
@@ -126,6 +135,7 @@ ready_well route false free begins (stage.Locking done) h =
 ready_well route false free begins (stage.Throwing done) h = refl
 ready_well route false free begins stage.Reporting h = leaving_well route route.signal refl
 ready_well route false free begins stage.Set h = leaving_well route route.signal refl
+ready_well route false free begins (stage.Fallen told) h = refl
 ready_well route false free begins other h = h
 
 retried_well : (route : Route) (s : Stage) → well route s ≡ true → well route (retried_stage s) ≡ true
@@ -137,11 +147,13 @@ retried_well route other h = h
 abbrev pub fresh : Stage → Bool
 fresh (stage.Locking done) = done == 0
 fresh stage.Showing = true
+fresh (stage.Falling told) = true
 fresh other = false
 
 pub fresh_held : (s : Stage) → fresh s ≡ true → is_held s ≡ true
 fresh_held (stage.Locking done) h = refl
 fresh_held stage.Showing h = refl
+fresh_held (stage.Falling told) h = refl
 fresh_held other h = absurd (cc)
 
 retried_fresh : (s : Stage) → fresh (retried_stage s) ≡ true → fresh s ≡ true
@@ -180,6 +192,9 @@ reply_stale route stage.Hiding o true e = left_stale _ (count_of route == 0)
 reply_stale route stage.Hiding o false e = left_stale _ (count_of route == 0)
 reply_stale route stage.Reporting o true e = refl
 reply_stale route stage.Reporting o false e = leaving_stale route.signal
+reply_stale route (stage.Fallen false) o true e = refl
+reply_stale route (stage.Fallen false) o false e = refl
+reply_stale route (stage.Fallen true) o ok e = absurd (cc)
 reply_stale route other o true e = refl
 reply_stale route other o false e = refl
 
@@ -220,11 +235,10 @@ pub next_well : (t : Table) (waits : Bool) (d : Option ℕ) → AllWell t.routes
 next_well t true d all = all
 next_well t false None all = all
 next_well t false (Some n) all = set_well t.routes t.stages n (ready_at t n)
-    (λ route is. ap (λ (x : Option Route). well route (option_map_or
-    (λ (route : Route). let free = are_free t.sensors route.blocks.items in
-    ready_stage route (wanted_at t.wanted n) free (may_begin t n free) (stage_at t.stages n)) x stage.Idle)) is
-    ∙ ready_well route (wanted_at t.wanted n) (are_free t.sensors route.blocks.items)
-    (may_begin t n (are_free t.sensors route.blocks.items)) (stage_at t.stages n) (all n route is)) all
+    (λ route is. ap (λ (x : Option Route). well route (option_map_or (ready_in t n) x stage.Idle)) is
+    ∙ in_keeps (λ s. well route s ≡ true) t n route (λ some h. some) (λ some h. some)
+    (ready_well route (wanted_at t.wanted n) (are_free t.sensors route.blocks.items)
+    (may_begin t n (are_free t.sensors route.blocks.items)) (stage_at t.stages n) (all n route is))) all
 
 -- a route whose order has been sent waits for the reply
 abbrev pub AllSent : List Stage → Option ℕ → Type 0

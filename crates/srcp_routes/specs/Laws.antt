@@ -1,10 +1,10 @@
 -- What holds after every list of events.
-use Rattle.std.specs.Prelude.{◌≡◌, ◌≢◌, ◌⊎◌, ℕ, ◌≤◌, Bool, true, false, ◌||◌, Option, Some, None, List}
-use Rattle.std.specs.Prelude.{length, map, fold, is_some, slice_get}
+use Rattle.std.specs.Prelude.{◌≡◌, ◌≢◌, ◌⊎◌, ℕ, ◌≤◌, Bool, true, false, ◌&&◌, ◌||◌, Option, Some, None, List}
+use Rattle.std.specs.Prelude.{length, map, nat_lt, fold, is_some, slice_get}
 use Rattle.srcp_routes.specs.Conflicts.{are_free, is_same}
 use Rattle.srcp_routes.specs.Plan.{Table, conflict_at, stage_at, wanted_at}
-use Rattle.srcp_routes.specs.Runs.{Run, is_freed_by, run, run_after}
-use Rattle.srcp_routes.specs.Stages.{is_held, is_idle, show_setting, turnout_at}
+use Rattle.srcp_routes.specs.Runs.{Run, head_heard, heard_of, is_freed_by, let_go_heard, run, run_after, stopped}
+use Rattle.srcp_routes.specs.Stages.{is_held, is_idle, show_setting, stop_setting, turnout_at}
 use Rattle.srcp_routes.specs.Steps.{after, course, step}
 use Rattle.srcp_routes.specs.declared.interlocking.Event.{Event}
 use Rattle.srcp_routes.specs.declared.interlocking.Event.TheVariants.{Reply, Told}
@@ -88,8 +88,12 @@ ShowsAreFree = (routes : List Route) (events : List Event) (event : Event) (sett
     → (step (run routes events).table event).order ≡ Some (order.Show setting)
     → IsShownRightly routes (run_after (run routes events) event) setting
 
+-- since the order that showed "go", the train of a route has entered the first section, which was told to be occupied
+abbrev pub has_come : Run → ℕ → Bool
+has_come r n = nat_lt 0 (r.head n)
+
 -- a route is told to be set rightly: it is that of the plan with this number, each of its turnouts is as it wants it,
--- and its signal, if it has one, shows "go"
+-- and its signal, if it has one, shows "go", unless its train has entered
 pub record IsToldRightly (routes : List Route) (r : Run) (number : ℕ) : Type 0 where
   pub teller : ℕ
   pub route : Route
@@ -98,7 +102,7 @@ pub record IsToldRightly (routes : List Route) (r : Run) (number : ℕ) : Type 0
   pub named : route.number ≡ number
   pub stand : (place : ℕ) (turnout : Setting) → turnout_at route place ≡ Some turnout
       → IsThrownAndLocked r teller turnout
-  pub lit : is_some route.signal ≡ true → r.lit teller ≡ true
+  pub lit : is_some route.signal ≡ true → has_come r teller ≡ false → r.lit teller ≡ true
 
 -- as long as the reply has not come to the order that tells that a route is set, the route is told so rightly
 abbrev pub SetIsTold : Type 0
@@ -119,6 +123,35 @@ ShownAreKept = (routes : List Route) (events : List Event) (n : ℕ) (route : Ro
     → turnout_at route place ≡ Some turnout → (run routes events).order ≡ Some last → touched last ≡ Some device
     → is_same turnout.device device ≡ false
 
+-- the train that a route has let go has come into the first section, and the route was not given back since
+abbrev pub is_entered : Run → Event → ℕ → Bool
+is_entered r event n = let_go_heard r event n && nat_lt 0 (head_heard r event n)
+
+-- the signal of a route that this session has shown, and not stopped since, once an event came
+abbrev pub shown_heard : Run → Event → ℕ → Bool
+shown_heard r event n = heard_of stopped (λ m. false) r.shown r event n
+
+abbrev pub is_show : Order → Bool
+is_show (order.Show setting) = true
+is_show other = false
+
+-- the next order of a route whose train has entered is the stop of its signal, and no later one shows "go"
+abbrev pub FallsBehind : Type 0
+FallsBehind = (routes : List Route) (events : List Event) (event : Event) (n : ℕ) (route : Route) (signal : Signal)
+    (next : Order) → slice_get routes n ≡ Some route → route.signal ≡ Some signal
+    → is_entered (run routes events) event n ≡ true
+    → (run_after (run routes events) event).table.waiting ≡ Some n
+    → (step (run routes events).table event).order ≡ Some next
+    → (next ≡ order.Stop (stop_setting signal))
+    ⊎ ((shown_heard (run routes events) event n ≡ false) × (is_show next ≡ false))
+
+-- once no order waits for its reply, the signal of each route whose train has entered was stopped
+abbrev pub EnteredAreDark : Type 0
+EnteredAreDark = (routes : List Route) (events : List Event) (event : Event) (n : ℕ) (route : Route)
+    → slice_get routes n ≡ Some route → (run_after (run routes events) event).table.waiting ≡ None
+    → (run_after (run routes events) event).let_go n ≡ true → has_come (run_after (run routes events) event) n ≡ true
+    → (run_after (run routes events) event).shown n ≡ false
+
 -- ---- routes that are asked for
 
 -- the signal of a route could not be stopped
@@ -130,6 +163,7 @@ is_unstopped other = false
 -- a route stays as it is: it is asked for, and is set or waits for its blocks; or its signal could not be stopped
 abbrev pub stays : Bool → Stage → Bool
 stays wanted stage.Set = wanted
+stays wanted (stage.Fallen true) = wanted
 stays wanted stage.Ready = wanted
 stays wanted other = is_unstopped other
 
@@ -139,9 +173,16 @@ pub record IsBehind (routes : List Route) (t : Table) (n : ℕ) : Type 0 where
   pub conflict : conflict_at routes n other ≡ true
   pub stays : stays (wanted_at t.wanted other) (stage_at t.stages other) ≡ true
 
+-- a route is set: its signal was stopped since only if its train has entered
+abbrev pub stands : (entered : Bool) → Stage → Bool
+stands entered stage.Set = true
+stands entered (stage.Fallen true) = entered
+stands entered other = false
+
 -- a route is set; or one of its blocks is not free, its own signal could not be stopped, or it is behind another
-abbrev pub IsServed : List Route → Table → ℕ → Route → Type 0
-IsServed routes t n route = (stage_at t.stages n ≡ stage.Set) ⊎ ((are_free t.sensors route.blocks.items ≡ false)
+abbrev pub IsServed : List Route → Table → (entered : Bool) → ℕ → Route → Type 0
+IsServed routes t entered n route = (stands entered (stage_at t.stages n) ≡ true)
+    ⊎ ((are_free t.sensors route.blocks.items ≡ false)
     ⊎ ((is_unstopped (stage_at t.stages n) ≡ true) ⊎ IsBehind routes t n))
 
 -- a route is asked for, or is so again before it ended
@@ -153,14 +194,15 @@ abbrev pub WantedAreServed : Type 0
 WantedAreServed = (routes : List Route) (events : List Event) (event : Event) (n : ℕ) (route : Route)
     → slice_get routes n ≡ Some route → (after (course routes events) event).waiting ≡ None
     → is_asked (after (course routes events) event) n ≡ true
-    → IsServed routes (after (course routes events) event) n route
+    → IsServed routes (after (course routes events) event) (has_come (run_after (run routes events) event) n) n route
 
 -- so it is of each route that is asked for by events alone
 abbrev pub AskedAreServed : Type 0
 AskedAreServed = (routes : List Route) (events : List Event) (event : Event) (n : ℕ) (route : Route)
     → slice_get routes n ≡ Some route → (run_after (run routes events) event).table.waiting ≡ None
     → (run_after (run routes events) event).asks n ≡ true
-    → IsServed routes (run_after (run routes events) event).table n route
+    → IsServed routes (run_after (run routes events) event).table (has_come (run_after (run routes events) event) n) n
+    route
 
 -- once no order waits for its reply, each route that was given back while its signal shows "go" has a signal that could
 -- not be stopped: all others were stopped, whatever was asked for since

@@ -35,6 +35,8 @@ order_of route (stage.Unlocking left) =
 order_of route stage.Showing = option_map (λ signal. order.Show (show_setting signal)) route.signal
 order_of route stage.Clearing = option_map (λ signal. order.Stop (stop_setting signal)) route.signal
 order_of route stage.Stopping = option_map (λ signal. order.Stop (stop_setting signal)) route.signal
+order_of route (stage.Falling told) = option_map (λ signal. order.Stop (stop_setting signal)) route.signal
+order_of route (stage.Fallen false) = Some (order.Report route.number true)
 order_of route stage.Reporting = Some (order.Report route.number true)
 order_of route stage.Closing = Some (order.Report route.number false)
 order_of route stage.Hiding = Some (order.Report route.number false)
@@ -74,6 +76,8 @@ after_reply route (stage.Throwing done) true =
 after_reply route (stage.Throwing done) false = stage.Hiding
 after_reply route stage.Showing ok = if ok then stage.Reporting else stage.Stopping
 after_reply route stage.Reporting ok = if ok then stage.Set else leaving_stage route
+after_reply route (stage.Falling told) ok = if ok then stage.Fallen told else stage.Stuck
+after_reply route (stage.Fallen false) ok = if ok then stage.Fallen true else stage.Hiding
 after_reply route stage.Stopping ok = if ok then stage.Hiding else stage.Stuck
 after_reply route stage.Hiding ok = left_stage (count_of route)
 after_reply route (stage.Unlocking left) ok = left_stage left
@@ -92,6 +96,7 @@ turned_back route (stage.Throwing done) = stage.Hiding
 turned_back route stage.Ready = stage.Hiding
 turned_back route stage.Reporting = leaving_stage route
 turned_back route stage.Set = leaving_stage route
+turned_back route (stage.Fallen told) = stage.Hiding
 turned_back route other = other
 
 -- the stage whose order a route may send next: it begins if it may, its signal is shown only if it is wanted and its
@@ -102,6 +107,12 @@ ready_stage route wanted free begins stage.Showing = stage.Stopping
 ready_stage route true true begins stage.Ready = stage.Showing
 ready_stage route true free begins other = other
 ready_stage route false free begins other = turned_back route other
+
+-- the signal of a route that shows "go", and is told to be set or about to be, falls once the train has entered
+abbrev pub falls : Route → (entered : Bool) → Stage → Stage
+falls route true stage.Reporting = by_signal route (stage.Falling false) stage.Reporting
+falls route true stage.Set = by_signal route (stage.Falling true) stage.Set
+falls route entered other = other
 
 abbrev pub is_idle : Stage → Bool
 is_idle stage.Idle = true

@@ -3,9 +3,10 @@ use Rattle.std.specs.Prelude.{ℕ, Bool, true, false, ◌&&◌, ◌||◌, Option
 use Rattle.std.specs.Prelude.{if◌then◌else◌, slice_get, slice_set, option_and_then, is_some}
 use Rattle.std.specs.Option.{option_map_or}
 use Rattle.srcp_routes.specs.Conflicts.{are_free, is_occupied, is_vacant, told_sensor}
-use Rattle.srcp_routes.specs.Plan.{Table, start, places, stage_at, train_sent, trains_behind, wanted_at, wanted_behind}
-use Rattle.srcp_routes.specs.Plan.{is_clear, still_wanted}
-use Rattle.srcp_routes.specs.Stages.{after_reply, is_idle, order_of, ready_stage, retried_stage}
+use Rattle.srcp_routes.specs.Plan.{Table, start, places, stage_at, train_at, train_sent, trains_behind, wanted_at}
+use Rattle.srcp_routes.specs.Plan.{is_clear, still_wanted, wanted_behind}
+use Rattle.srcp_routes.specs.Stages.{after_reply, falls, is_idle, order_of, ready_stage, retried_stage}
+use Rattle.srcp_routes.specs.Trains.{has_entered}
 use Rattle.srcp_routes.specs.declared.conflict.Sensed.{Sensed}
 use Rattle.srcp_routes.specs.declared.interlocking.Event.{Event}
 use Rattle.srcp_routes.specs.declared.interlocking.Event.TheVariants.{Ask, Give, Told, Reply, Lost}
@@ -27,11 +28,13 @@ may_begin t n free =
     is_idle (stage_at t.stages n) && (wanted_at t.wanted n && (free && is_clear t.routes t.stages n))
 
 -- the stage whose order a route may send next
+abbrev pub ready_in : Table → ℕ → Route → Stage
+ready_in t n route = let free = are_free t.sensors route.blocks.items in
+    falls route (has_entered (train_at t.trains n))
+    (ready_stage route (wanted_at t.wanted n) free (may_begin t n free) (stage_at t.stages n))
+
 abbrev pub ready_at : Table → ℕ → Stage
-ready_at t n = option_map_or
-    (λ (route : Route). let free = are_free t.sensors route.blocks.items in
-    ready_stage route (wanted_at t.wanted n) free (may_begin t n free) (stage_at t.stages n))
-    (slice_get t.routes n) stage.Idle
+ready_at t n = option_map_or (ready_in t n) (slice_get t.routes n) stage.Idle
 
 -- the order that a route may send next
 abbrev pub order_at : Table → ℕ → Option Order

@@ -1,5 +1,5 @@
 -- How far the train of a route has come over the sections of its way.
-use Rattle.std.specs.Prelude.{ℕ, ◌+◌, ◌-◌, ◌==◌, Bool, true, false, not, ◌&&◌, List, nat_lt, length}
+use Rattle.std.specs.Prelude.{ℕ, ◌+◌, ◌-◌, ◌==◌, Bool, true, false, not, ◌&&◌, Option, List, nat_lt, length}
 use Rattle.std.specs.Prelude.{if◌then◌else◌, is_some, slice_get}
 use Rattle.std.specs.Option.{option_map_or}
 use Rattle.srcp_routes.specs.Conflicts.{is_occupied, is_same, is_taken, is_vacant}
@@ -19,6 +19,10 @@ lets_go route other = false
 -- a train that was just let go
 abbrev pub at_start : Train
 at_start = record { head = 0; tail = 0 }
+
+-- a train, if there is one, has entered the first section
+abbrev pub has_entered : Option Train → Bool
+has_entered train = option_map_or (λ (train : Train). nat_lt 0 train.head) train false
 
 -- a sensor is the section of a route at a place
 abbrev pub is_section : Route → ℕ → Device → Bool

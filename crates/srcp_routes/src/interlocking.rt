@@ -3,24 +3,21 @@
 ghost use Rattle.std.specs.Prelude.{◌≡◌, ◌<◌, IfOk, IfSome, length};
 ghost use Rattle.srcp_routes.specs.Plan.{start};
 ghost use Rattle.srcp_routes.specs.Steps.{due, followed, given, heard, is_renewed, may_begin, next, order_at, ready_at};
-ghost use Rattle.srcp_routes.specs.Steps.{stage_replied, step, told};
+ghost use Rattle.srcp_routes.specs.Steps.{ready_in, stage_replied, step, told};
 ghost use Rattle.srcp_routes.specs.declared.interlocking.Event.TheVariants.{Ask, Lost, Reply};
 
 use crate::conflict::{Sensed, are_free, is_occupied, sense, sensors_of};
-use crate::stage::{after_reply, lost, order_of, ready, retried};
-use crate::table::{follow, give_freed, is_clear, lost_stages, stage_at, train_sent, wanted_at};
-use crate::train::Train;
+use crate::stage::{after_reply, fall, lost, order_of, ready, retried};
+use crate::table::{
+    follow, give_freed, is_clear, lost_stages, stage_at, train_at, train_sent, wanted_at,
+};
+use crate::train::{Train, has_entered};
 use crate::{Device, Occupancy, Order, Route, Stage};
 use std::alloc::{AllocError, Global};
 use std::marker::Model;
 use std::vec::Vec;
 
 /// Names an event of an interlocking. A route is named by its place in the plan.
-///
-/// ```
-/// let event = Event::Told(Device { bus: 1, address: 12 }, Occupancy::Free);
-/// let order = interlocking.step(event);
-/// ```
 #[derive(Clone, Copy, Debug, PartialEq, Eq)]
 pub enum Event {
     /// A route is asked for.
@@ -114,22 +111,23 @@ impl Interlocking {
             && is_clear(&self.routes, &self.stages, n)
     }
 
+    /// Returns the stage whose order this route, which stands at a place, may send next.
+    fn ready_in(&self, n: usize, route: &Route) -> Stage
+        ensures { result ≡ ready_in self.now n route.now }
+    {
+        let is_free = are_free(&self.sensors, &route.blocks);
+        let begins = self.may_begin(n, is_free);
+        let stage = stage_at(&self.stages, n);
+        let next = ready(route, wanted_at(&self.wanted, n), is_free, begins, stage);
+        fall(route, has_entered(train_at(&self.trains, n)), next)
+    }
+
     /// Returns the stage whose order the route at a place may send next.
     fn ready_at(&self, n: usize) -> Stage
         ensures { result ≡ ready_at self.now n }
     {
         match self.routes.get(n) {
-            Some(route) => {
-                let is_free = are_free(&self.sensors, &route.blocks);
-                let begins = self.may_begin(n, is_free);
-                ready(
-                    route,
-                    wanted_at(&self.wanted, n),
-                    is_free,
-                    begins,
-                    stage_at(&self.stages, n),
-                )
-            }
+            Some(route) => self.ready_in(n, route),
             None => Stage::Idle,
         }
     }

@@ -1,8 +1,9 @@
 //! Laws of every list of events. Each function does nothing: its `ensures` is the law.
 
-ghost use Rattle.srcp_routes.specs.Laws.{AskedAreServed, CrossApart, FreedBehind, GivenEnd, HeldStandAlone, LeftEnds};
-ghost use Rattle.srcp_routes.specs.Laws.{OneSensorFreesNone, RepliesSettle, SetIsTold, ShownAreKept, ShownStand};
-ghost use Rattle.srcp_routes.specs.Laws.{ShowsAreFree, ThrowsAreLocked, WantedAreServed};
+ghost use Rattle.srcp_routes.specs.Laws.{AskedAreServed, CrossApart, EnteredAreDark, FallsBehind, FreedBehind};
+ghost use Rattle.srcp_routes.specs.Laws.{GivenEnd, HeldStandAlone, LeftEnds, OneSensorFreesNone, RepliesSettle};
+ghost use Rattle.srcp_routes.specs.Laws.{SetIsTold, ShownAreKept, ShownStand, ShowsAreFree, ThrowsAreLocked};
+ghost use Rattle.srcp_routes.specs.Laws.{WantedAreServed};
 
 /// States for any plan and any list of events: while a route is held, each other route that conflicts is idle. No two
 /// routes that conflict are held at once.
@@ -37,13 +38,15 @@ pub fn shown_are_safe()
 
 /// States for any plan and any list of events what stands as a route is told to be set. Each turnout of the route is
 /// locked, and was thrown since as the route wants. The order that shows the signal of the route, if
-/// there is one, was accepted, and no order stopped the signal since.
+/// there is one, was accepted, and no order stopped the signal since. The signal may be stopped if a train has come
+/// into the first section since that order was sent.
 pub fn set_is_told()
     ensures { SetIsTold }
 {}
 
 /// States for any plan and any list of events what is true once no order waits for a reply. Each route that is asked
-/// for is set, or waits for a reason. A block of the route is not free, or the route's own signal could not be stopped.
+/// for is set, or waits for a reason. A set route shows "go" if the route has a signal, unless a train has come into
+/// the first section. A block of the route is not free, or the route's own signal could not be stopped.
 /// Or the route is behind a conflicting route, which is asked for and held, or has a signal that could not be stopped.
 pub fn wanted_are_served()
     ensures { WantedAreServed }
@@ -78,6 +81,15 @@ pub fn freed_behind()
 /// however often, the route is not given back by that.
 pub fn one_sensor_frees_none()
     ensures { OneSensorFreesNone }
+{}
+
+/// States for any plan and any list of events that a signal falls behind the head of a train. Let the train that a
+/// route has let go come into the first section. The next order of the route is the stop of the signal, and no later
+/// order shows "go" (`next`). Once no order waits for a reply, the signal was stopped (`dark`). So it is until the
+/// route is given back.
+pub fn falls_behind()
+    ensures next { FallsBehind }
+    ensures dark { EnteredAreDark }
 {}
 
 /// States for any plan and any list of events what is true of a route that was given back and not asked for since. A

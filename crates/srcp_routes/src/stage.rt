@@ -1,9 +1,9 @@
 //! The stages of a route: the order at each stage, and what comes after the order.
 
 ghost use Rattle.std.specs.Prelude.{◌≡◌};
-ghost use Rattle.srcp_routes.specs.Stages.{after_reply, by_signal, first_stage, is_held, is_idle, leaving_stage};
-ghost use Rattle.srcp_routes.specs.Stages.{left_stage, lost_stage, order_of, ready_stage, retried_stage, show_setting};
-ghost use Rattle.srcp_routes.specs.Stages.{stop_setting, turned_back};
+ghost use Rattle.srcp_routes.specs.Stages.{after_reply, by_signal, falls, first_stage, is_held, is_idle};
+ghost use Rattle.srcp_routes.specs.Stages.{leaving_stage, left_stage, lost_stage, order_of, ready_stage};
+ghost use Rattle.srcp_routes.specs.Stages.{retried_stage, show_setting, stop_setting, turned_back};
 
 use crate::{Order, Route, Setting, Signal};
 
@@ -21,6 +21,10 @@ use crate::{Order, Route, Setting, Signal};
 /// any stage --- a command session begins ---> Clearing ---> Closing ---> Idle
 ///                                                 ^
 ///                                                 +-------> Blocked
+///
+/// Reporting, Set --- the train enters ---> Falling ---> Fallen ---> Hiding
+///                                             |
+///                                             +-------> Stuck
 /// ```
 ///
 /// A route goes to the right while it is wanted and its orders are accepted. It goes down if an order is refused, or if
@@ -51,6 +55,10 @@ pub enum Stage {
     Reporting,
     /// The route is set.
     Set,
+    /// The signal is to be stopped behind the head of a train. The route was reported as set, or is to be.
+    Falling(bool),
+    /// The signal was stopped behind the head of a train. The route is set, or is to be reported so.
+    Fallen(bool),
     /// The signal is to be stopped, and the route holds its locks.
     Stopping,
     /// The signal could not be stopped, and the route keeps its locks.
@@ -166,10 +174,17 @@ pub(crate) fn order_of(route: &Route, stage: Stage) -> Option<Order>
         Stage::Throwing(done) => Some(Order::Throw(*route.turnouts.get(done)?)),
         Stage::Unlocking(left) => Some(Order::Unlock(route.turnouts.get(left)?.device)),
         Stage::Showing => Some(Order::Show(show_setting(route.signal?))),
-        Stage::Clearing | Stage::Stopping => Some(Order::Stop(stop_setting(route.signal?))),
-        Stage::Reporting => Some(Order::Report(route.number, true)),
+        Stage::Clearing | Stage::Stopping | Stage::Falling(_) => {
+            Some(Order::Stop(stop_setting(route.signal?)))
+        }
+        Stage::Reporting | Stage::Fallen(false) => Some(Order::Report(route.number, true)),
         Stage::Closing | Stage::Hiding => Some(Order::Report(route.number, false)),
-        Stage::Idle | Stage::Blocked | Stage::Ready | Stage::Set | Stage::Stuck => None,
+        Stage::Idle
+        | Stage::Blocked
+        | Stage::Ready
+        | Stage::Set
+        | Stage::Fallen(true)
+        | Stage::Stuck => None,
     }
 }
 
@@ -193,8 +208,10 @@ pub(crate) fn after_reply(route: &Route, stage: Stage, ok: bool) -> Stage
         (Stage::Showing, false) => Stage::Stopping,
         (Stage::Reporting, true) => Stage::Set,
         (Stage::Reporting, false) => leaving_stage(route),
-        (Stage::Stopping, true) => Stage::Hiding,
-        (Stage::Stopping, false) => Stage::Stuck,
+        (Stage::Falling(is_told), true) => Stage::Fallen(is_told),
+        (Stage::Fallen(false), true) => Stage::Fallen(true),
+        (Stage::Fallen(false), false) | (Stage::Stopping, true) => Stage::Hiding,
+        (Stage::Falling(_) | Stage::Stopping, false) => Stage::Stuck,
         (Stage::Hiding, _) => left_stage(count),
         (Stage::Unlocking(left), _) => left_stage(left),
         (other, _) => other,
@@ -207,7 +224,7 @@ fn turned_back(route: &Route, stage: Stage) -> Stage
 {
     match stage {
         Stage::Locking(done) => left_stage(done),
-        Stage::Throwing(_) | Stage::Ready => Stage::Hiding,
+        Stage::Throwing(_) | Stage::Ready | Stage::Fallen(_) => Stage::Hiding,
         Stage::Reporting | Stage::Set => leaving_stage(route),
         other => other,
     }
@@ -230,5 +247,17 @@ pub(crate) fn ready(
         Stage::Ready if is_wanted && is_free => Stage::Showing,
         other if is_wanted => other,
         other => turned_back(route, other),
+    }
+}
+
+/// Returns the stage at which the signal of a route falls, if the signal shows "go" at this stage and a train has
+/// entered the route. Returns this stage otherwise.
+pub(crate) fn fall(route: &Route, has_entered: bool, stage: Stage) -> Stage
+    ensures { result ≡ falls route.now has_entered stage }
+{
+    match stage {
+        Stage::Reporting if has_entered => by_signal(route, Stage::Falling(false), stage),
+        Stage::Set if has_entered => by_signal(route, Stage::Falling(true), stage),
+        other => other,
     }
 }

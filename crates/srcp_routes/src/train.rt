@@ -1,7 +1,7 @@
 //! How far the train of a route has come over the sections of the route's way.
 
 ghost use Rattle.std.specs.Prelude.{◌≡◌};
-ghost use Rattle.srcp_routes.specs.Trains.{head_told, is_taken_at, is_through, lets_go, moved, tail_told};
+ghost use Rattle.srcp_routes.specs.Trains.{has_entered, head_told, is_taken_at, is_through, lets_go, moved, tail_told};
 
 use crate::conflict::{Sensed, is_occupied, is_same};
 use crate::{Route, Stage};
@@ -24,6 +24,16 @@ pub(crate) fn lets_go(route: &Route, stage: Stage) -> bool
         Stage::Showing => true,
         Stage::Reporting => route.signal.is_none(),
         _ => false,
+    }
+}
+
+/// Returns whether a train, if there is one, has entered the first section.
+pub(crate) fn has_entered(train: Option<Train>) -> bool
+    ensures { result ≡ has_entered train }
+{
+    match train {
+        Some(train) => train.head > 0,
+        None => false,
     }
 }
 
