@@ -39,6 +39,12 @@ def one(program):
     assert told.stdout == "1\\n", told.stderr
 
 
+def one_in_set_up(program):
+    def setUp():
+        one(program)
+    setUp()
+
+
 def two(program):
     sys.path.insert(0, os.environ["SRCP_PROGRAMS"])
     from folder import two
@@ -54,12 +60,13 @@ def late(program):
 
 
 def cases_by_name():
-    return {"bridge-one": one, "bridge-two": two, "bridge-three-in-chromium": three_in_chromium, "bridge-late": late}
+    return {"bridge-one": one, "bridge-one-in-set-up": one_in_set_up, "bridge-two": two,
+            "bridge-three-in-chromium": three_in_chromium, "bridge-late": late}
 
 
 def fault_of(case, program):
     with open(program, "a") as log:
-        log.write(f"{os.getpid()} {case.__name__}\\n")
+        log.write(f"{os.getpid()} {sys.argv[2]}\\n")
     time.sleep(float(os.environ.get("CASE_SECONDS", 0)))
     try:
         return case(program)
@@ -150,12 +157,14 @@ def break_that_starts_nothing_fails(_: str) -> str | None:
     with clone() as here:
         here.edit("one--no-name", ONE.format("none"))
         here.edit("one--no-python", ONE.format("="))
+        here.edit("one--no-setup", ONE.format(3).replace("bridge-one", "bridge-one-in-set-up"))
         here.edit("two--no-import", "file: folder/two.py\ncase: bridge-two\nold: TWO = 2\nnew: import none_such\n")
         here.edit("two--no-assertion", TWO.format("2\nnew: raise KeyError"))
         return unlike(here.tried(), 1, [
             "one--no-name: it starts nothing: NameError", "one--no-python: one.py is no Python with it",
+            "one--no-setup: bridge-one-in-set-up fails by no assertion: RuntimeError('it did not begin') at one.py:1",
             "two--no-assertion: bridge-two fails by no assertion: KeyError() at one.py:1",
-            "two--no-import: it starts nothing: ModuleNotFoundError", "0 seen, 4 failed"])
+            "two--no-import: it starts nothing: ModuleNotFoundError", "0 seen, 5 failed"])
 
 
 def break_that_applies_nowhere_fails(_: str) -> str | None:
@@ -208,7 +217,8 @@ def break_that_was_seen_longest_ago_is_tried_first(_: str) -> str | None:
         with open(one.top / "bridges" / "one.py", "a") as program:
             program.write("# one more line\n")
         one.tried()
-        return None if one.cases() == 2 * ["two", "two", "one", "one"] else f"cases {one.cases()}"
+        in_turn = 2 * ["bridge-two", "bridge-two", "bridge-one", "bridge-one"]
+        return None if one.cases() == in_turn else f"cases {one.cases()}"
 
 
 def runner_of_breaks_that_is_ended_leaves_nothing(_: str) -> str | None:

@@ -40,12 +40,22 @@ ROOMS = "srcp_broken_"
 LIMIT = 300  # seconds that a case may take
 KEPT_DAYS = 60
 # Runs one case, and tells its fault with the kind of that: none, a text, or that it tried nothing. What never comes is
-# waited for as long as this, and not for as long as in the gate.
+# waited for as long as this, and not for as long as in the gate. What fails in setUp has tried nothing of its own.
 ALONE = """import sys
+import traceback
 import run_cases
 from bridge_tests import common
+
+def alone(program):
+    try:
+        return run_cases.cases_by_name()[sys.argv[2]](program)
+    except AssertionError as stop:
+        if any(frame.name == "setUp" for frame in traceback.extract_tb(stop.__traceback__)):
+            raise RuntimeError("it did not begin") from stop
+        raise
+
 common.until.__defaults__ = 25.0,
-fault = run_cases.fault_of(run_cases.cases_by_name()[sys.argv[2]], sys.argv[1])
+fault = run_cases.fault_of(alone, sys.argv[1])
 print(f"{type(fault).__name__}: {fault}")
 """
 SAID = re.compile(r"^(NoneType|TriedNothing|str): (.*)$", re.M)
@@ -108,9 +118,10 @@ def broken(change: Change, bridges: Path) -> str | Fault:
 
 
 class Outcome(Enum):
-    SEEN = "seen"
-    PASSED = "passed"
-    FAILED = "failed"
+    SEEN = "the case fails by what it asserts"
+    PASSED = "the case passes"
+    FAILED = "the case fails otherwise"
+    WRONG = "the break does not apply"
     UNTRIED = "not tried"
 
 
@@ -196,30 +207,31 @@ class Trial:
         """Runs the case of a break over a copy with it."""
         made = broken(one.change, self.room / "bridges")
         if isinstance(made, Fault):
-            return Verdict(Outcome.FAILED, made.why)
+            return Verdict(Outcome.WRONG, made.why)
         if time.monotonic() >= self.end:
             return Verdict(Outcome.UNTRIED)
         return self.runs(one.case, one.change.file, made)
 
-    def confirm(self, one: Break) -> Verdict:
-        """Runs the case over a copy without a break: what it saw counts if it passes there."""
+    def is_sound(self, one: Break) -> bool:
+        """Tells whether the case of a break passes over a copy without it."""
         whole = (self.room / "bridges" / one.change.file).read_text()
-        is_sound = self.runs(one.case, one.change.file, whole).outcome is Outcome.PASSED
-        return Verdict(Outcome.SEEN) if is_sound else Verdict(Outcome.UNTRIED, f"{one.case} fails without it too")
+        return self.runs(one.case, one.change.file, whole).outcome is Outcome.PASSED
 
     def try_case(self, breaks: list[Break]) -> list[Outcome]:
         """Tries the breaks of one case, keeps those that it saw, and tells of the others."""
-        told, sound = [], None
+        told, is_sound = [], None
         with suppress(Stopped):
             for one in breaks:
                 verdict = self.judge(one)
-                if verdict.outcome is Outcome.SEEN:
-                    verdict = sound = sound or self.confirm(one)
-                told.append(verdict.outcome)
+                if verdict.outcome in (Outcome.SEEN, Outcome.FAILED):
+                    is_sound = self.is_sound(one) if is_sound is None else is_sound
+                    if not is_sound:
+                        verdict = Verdict(Outcome.UNTRIED, f"{one.case} fails without it too")
                 if verdict.outcome is Outcome.SEEN:
                     self.kept.keep(one)
                 elif verdict.why:
                     print(f"{one.name}: {verdict.why}", flush=True)
+                told.append(verdict.outcome)
         return told
 
 
@@ -262,7 +274,7 @@ def main() -> int:
         told = try_breaks(Trial(os.path.abspath(words.program), Path(room), kept, end), wanted)
     kept.drop_old()
     seen = len(breaks) - len(wanted) + told.count(Outcome.SEEN)
-    failed = len(faults) + told.count(Outcome.PASSED) + told.count(Outcome.FAILED)
+    failed = len(faults) + sum(told.count(one) for one in (Outcome.PASSED, Outcome.FAILED, Outcome.WRONG))
     untried = told.count(Outcome.UNTRIED)
     print(f"{seen} seen, {failed} failed" + (f", {untried} not tried" if untried else ""))
     return 1 if failed else 0
