@@ -49,7 +49,7 @@ from bridge_tests import common
 def alone(program):
     try:
         return run_cases.cases_by_name()[sys.argv[2]](program)
-    except AssertionError as stop:
+    except Exception as stop:
         if any(frame.name == "setUp" for frame in traceback.extract_tb(stop.__traceback__)):
             raise RuntimeError("it did not begin") from stop
         raise
