@@ -2,8 +2,8 @@
 use Rattle.std.proofs.Common.{◌&&◌, ◌==◌, [], ap, Bool, false, List, None, not, Option, refl, Some, sym, true, ℕ, ◌∙◌, ◌∷◌, ◌≡◌}
 use Rattle.std.specs.Option.{option_map_or}
 use Rattle.std.specs.Prelude.{if◌then◌else◌, ◌||◌}
-use Rattle.srcp_driver.specs.Cabs.{aged, asked, handed, held, is_due, is_kept, is_no_command, is_own, is_silent, refused, reported}
-use Rattle.srcp_driver.specs.Cabs.{still_asked, told, wanted, with_row}
+use Rattle.srcp_driver.specs.Cabs.{aged, asked, handed, held, is_due, is_kept, is_no_command, is_own, is_silent, refused, reported, told}
+use Rattle.srcp_driver.specs.Cabs.{wanted, with_answer, with_command, with_row}
 use Rattle.srcp_driver.specs.Drives.{drives, is_alike, is_same, is_value, rest}
 use Rattle.srcp_driver.specs.Powers.{is_cut}
 use Rattle.srcp_driver.specs.Runs.{course, heard, is_commanded, Made, rests}
@@ -82,15 +82,7 @@ said_keeps Q false b drive cab same new = same
 -- a row: the command stays, is none, or is what the row says, if it rests or is a command
 row_of : (Q : Option Drive → Type 0) (drive : Drive) (old own denied : Bool) (cab : Cab) → (own ≡ true → Q cab.command)
     → Q None → (denied ≡ false → Q (Some drive))
-    → Q (if own then record cab { row = drive; asked = None; is_refused = false }
-    else record cab {
-      row = drive;
-      command = if denied then None else Some drive;
-      is_held = denied;
-      asked = still_asked cab.asked drive;
-      is_refused = false;
-      told = if drives drive then cab.told else None;
-    }).command
+    → Q (if own then with_answer drive cab else with_command drive denied cab).command
 row_of Q drive old true denied cab same none new = same refl
 row_of Q drive old false true cab same none new = none
 row_of Q drive old false false cab same none new = new refl

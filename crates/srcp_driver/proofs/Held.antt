@@ -2,7 +2,8 @@
 use Rattle.std.proofs.Common.{◌&&◌, ◌++◌, ◌==◌, [], ap, Bool, false, List, None, not, Option, refl, Some, sym, true, ℕ, ◌∙◌, ◌∷◌, ◌≡◌}
 use Rattle.std.specs.Option.{option_map_or}
 use Rattle.std.specs.Prelude.{if◌then◌else◌, ◌||◌}
-use Rattle.srcp_driver.specs.Cabs.{handed, held, is_due, is_no_command, is_own, refused, reported, still_asked, told, with_row}
+use Rattle.srcp_driver.specs.Cabs.{handed, held, is_due, is_no_command, is_own, refused, reported, told, with_answer, with_command}
+use Rattle.srcp_driver.specs.Cabs.{with_row}
 use Rattle.srcp_driver.specs.Drives.{drives, is_alike, is_same}
 use Rattle.srcp_driver.specs.Laws.{AreNo, is_row, may_rest, RowsRestFirst}
 use Rattle.srcp_driver.specs.Powers.{is_cut}
@@ -53,9 +54,6 @@ record Flags (cab : Cab) : Type 0 where
   pub held : cab.is_held ≡ true
   pub asks : cab.is_refused ≡ false
 
-pick_flags : (b : Bool) (x y : Cab) → Flags x → Flags y → Flags (if b then x else y)
-pick_flags b x y one two = pick Flags b x y one two
-
 held_flags : (cab : Cab) → Flags cab → Flags (held cab)
 held_flags cab e = record { held = or_left cab.is_held (drives cab.row) e.held; asks = refl }
 
@@ -72,15 +70,7 @@ row_no drive old cab moves e =
     kept_of (drives drive) old cab.is_held cab.is_refused (is_same cab.row drive) moves e.held e.asks
 
 row_flags_of : (drive : Drive) (own denied : Bool) (cab : Cab) → denied ≡ true → Flags cab
-    → Flags (if own then record cab { row = drive; asked = None; is_refused = false }
-    else record cab {
-      row = drive;
-      command = if denied then None else Some drive;
-      is_held = denied;
-      asked = still_asked cab.asked drive;
-      is_refused = false;
-      told = if drives drive then cab.told else None;
-    })
+    → Flags (if own then with_answer drive cab else with_command drive denied cab)
 row_flags_of drive true denied cab is e = record { held = e.held; asks = refl }
 row_flags_of drive false denied cab is e = record { held = is; asks = refl }
 
@@ -96,9 +86,9 @@ hand_flags drive cab e = record { held = e.held; asks = refl }
 said_flags_of : (drive : Drive) (cab : Cab) (x y : Option Drive) → Flags cab
     → Flags (option_map_or (λ told. if is_same told drive then record cab { awaited = None; is_late = false } else cab) x
     (option_map_or (λ told. if is_alike told drive then cab else handed drive cab) y cab))
-said_flags_of drive cab (Some a) y e = pick_flags (is_same a drive) (record cab { awaited = None; is_late = false }) cab
+said_flags_of drive cab (Some a) y e = pick Flags (is_same a drive) (record cab { awaited = None; is_late = false }) cab
     (record { held = e.held; asks = e.asks }) e
-said_flags_of drive cab None (Some x) e = pick_flags (is_alike x drive) cab (handed drive cab) e (hand_flags drive cab e)
+said_flags_of drive cab None (Some x) e = pick Flags (is_alike x drive) cab (handed drive cab) e (hand_flags drive cab e)
 said_flags_of drive cab None None e = e
 
 heard_flags : (t : Table) (event : Event) (n : ℕ) (cab : Cab) → may_rest n event ≡ false → Flags cab
@@ -109,11 +99,11 @@ heard_flags t event.Greeted n cab denied e = record { held = (held_flags cab e).
 heard_flags t event.Gone n cab denied e = record { held = (held_flags cab e).held; asks = refl }
 heard_flags t event.Lost n cab denied e = held_flags cab e
 heard_flags t event.StopAll n cab denied e = held_flags cab e
-heard_flags t (event.Said m drive) n cab denied e = pick_flags t.is_here (if n == m then reported drive cab else cab) cab
-    (pick_flags (n == m) (reported drive cab) cab (said_flags_of drive cab cab.awaited cab.told e) e) e
-heard_flags t (event.SaidPower on) n cab denied e = pick_flags t.is_here (if is_cut on t.power then held cab else cab) cab
-    (pick_flags (is_cut on t.power) (held cab) cab (held_flags cab e) e) e
-heard_flags t (event.Moment now) n cab denied e = pick_flags (is_due now cab) (record cab { told = None; is_late = true }) cab
+heard_flags t (event.Said m drive) n cab denied e = pick Flags t.is_here (if n == m then reported drive cab else cab) cab
+    (pick Flags (n == m) (reported drive cab) cab (said_flags_of drive cab cab.awaited cab.told e) e) e
+heard_flags t (event.SaidPower on) n cab denied e = pick Flags t.is_here (if is_cut on t.power then held cab else cab) cab
+    (pick Flags (is_cut on t.power) (held cab) cab (held_flags cab e) e) e
+heard_flags t (event.Moment now) n cab denied e = pick Flags (is_due now cab) (record cab { told = None; is_late = true }) cab
     (record { held = e.held; asks = e.asks }) e
 heard_flags t (event.Reply true) n cab denied e = e
 heard_flags t (event.Reply false) n cab denied e = absurd (cc)
@@ -158,7 +148,7 @@ ordered_flags t None n cab e = e
 ordered_flags t (Some tell.StopAll) n cab e = e
 ordered_flags t (Some (tell.Power on)) n cab e = e
 ordered_flags t (Some (tell.Cab m drive)) n cab e =
-    pick_flags (n == m) (told drive t.clock cab) cab (record { held = e.held; asks = e.asks }) e
+    pick Flags (n == m) (told drive t.clock cab) cab (record { held = e.held; asks = e.asks }) e
 
 after_held : (n : ℕ) (t : Table) (event : Event) → Each (Of n IsHeld) (happens t event).cabs → Each (Of n IsHeld) (after t event).cabs
 after_held n t event all =

@@ -3,7 +3,7 @@ use Rattle.std.proofs.Common.{◌&&◌, ◌++◌, ◌==◌, [], ap, Bool, false,
 use Rattle.std.proofs.Common.{◌∙◌, ◌∷◌, ◌≡◌, ◌⊎◌}
 use Rattle.std.specs.Option.{option_map_or}
 use Rattle.std.specs.Prelude.{if◌then◌else◌, ◌||◌}
-use Rattle.srcp_driver.specs.Cabs.{asked, is_kept, is_no_command, is_own, reported, still_asked, with_row}
+use Rattle.srcp_driver.specs.Cabs.{asked, is_kept, is_no_command, is_own, reported, with_answer, with_command, with_row}
 use Rattle.srcp_driver.specs.Drives.{drives, is_value, rest}
 use Rattle.srcp_driver.specs.Laws.{AreNo, is_row, may_change, NewestIsTold}
 use Rattle.srcp_driver.specs.Powers.{is_cut}
@@ -44,15 +44,7 @@ first_of row b true never = absurd (never refl)
 first_of row b false never = inr refl
 
 row_of : (row : Drive) (own denied : Bool) (cab : Cab) → (own ≡ true → ⊥) → (denied ≡ true → ⊥)
-    → IsOf row (if own then record cab { row = row; asked = None; is_refused = false }
-    else record cab {
-      row = row;
-      command = if denied then None else Some row;
-      is_held = denied;
-      asked = still_asked cab.asked row;
-      is_refused = false;
-      told = if drives row then cab.told else None;
-    }).command
+    → IsOf row (if own then with_answer row cab else with_command row denied cab).command
 row_of row true denied cab not-own never = absurd (not-own refl)
 row_of row false denied cab not-own never = first_of row false denied never
 

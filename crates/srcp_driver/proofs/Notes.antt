@@ -2,13 +2,13 @@
 use Rattle.std.proofs.Common.{◌&&◌, ◌==◌, [], ap, Bool, false, List, None, not, Option, refl, Some, true, ℕ, ◌∙◌, ◌∷◌, ◌≡◌}
 use Rattle.std.specs.Option.{option_map_or, option_or}
 use Rattle.std.specs.Prelude.{if◌then◌else◌, is_some, ◌||◌}
-use Rattle.srcp_driver.specs.Cabs.{aged, asked, confirms, handed, has_passed, held, is_due, is_no_command, is_own}
-use Rattle.srcp_driver.specs.Cabs.{is_silent, named, refused, reported, still_asked, told, with_row}
-use Rattle.srcp_driver.specs.Drives.{drives, is_alike, is_same, is_value}
-use Rattle.srcp_driver.specs.Noted.{asks, is_hand_off, Noted, noted_asked, noted_by, noted_heard, noted_lost, noted_refused}
-use Rattle.srcp_driver.specs.Noted.{noted_row, noted_said, noted_told, NotedPower, notes, power_noted, power_noted_asked}
-use Rattle.srcp_driver.specs.Noted.{power_noted_heard, power_noted_told, power_notes, power_told_so, still_open}
-use Rattle.srcp_driver.specs.Noted.{noted_so, unreplied}
+use Rattle.srcp_driver.specs.Cabs.{aged, asked, confirms, handed, has_passed, held, is_due, is_no_command, is_own, is_silent, named}
+use Rattle.srcp_driver.specs.Cabs.{refused, reported, told, with_answer, with_command, with_row}
+use Rattle.srcp_driver.specs.Drives.{is_alike, is_same, is_value}
+use Rattle.srcp_driver.specs.Noted.{asks, is_hand_off, Noted, noted_answer, noted_asked, noted_by, noted_command, noted_hand, noted_heard}
+use Rattle.srcp_driver.specs.Noted.{noted_lost, noted_refused, noted_row, noted_said, noted_so, noted_told, NotedPower, notes, power_noted}
+use Rattle.srcp_driver.specs.Noted.{power_noted_asked, power_noted_heard, power_noted_told, power_notes, power_told_so, still_open}
+use Rattle.srcp_driver.specs.Noted.{unreplied}
 use Rattle.srcp_driver.specs.Powers.{is_cut}
 use Rattle.srcp_driver.specs.Runs.{course, heard, is_here, Known, known, Made, moment, order, told_so}
 use Rattle.srcp_driver.specs.Steps.{at, next, put_noted, Table, tells}
@@ -23,56 +23,41 @@ use Rattle.srcp_driver.specs.declared.event.Tell.TheVariants as tell
 use Rattle.srcp_driver.proofs.Agree.{Agrees, agrees, all_agrees, blanks}
 use Rattle.srcp_driver.proofs.Each.{cab_heard, cab_ordered, cab_put, cab_refused, Each, each_heard, each_ordered, each_put}
 use Rattle.srcp_driver.proofs.Plain.{facts}
-use Rattle.srcp_driver.proofs.Seen.{either_seen, heard_waiting, ordered_waiting, pick_seen, power_heard_seen, power_ordered_seen}
+use Rattle.srcp_driver.proofs.Same.{pick, picks}
+use Rattle.srcp_driver.proofs.Seen.{heard_waiting, IsSeen, ordered_waiting, power_heard_seen, power_ordered_seen}
 use Rattle.srcp_driver.proofs.Seen.{power_put_seen, power_seen, put_waiting, seen}
 use Rattle.srcp_driver.proofs.Ties.{Tied}
 
 -- ---- one locomotive
 
 row_seen : (drive : Drive) (old : Bool) (cab : Cab) → noted_row drive old (seen cab) ≡ seen (with_row drive old cab)
-row_seen drive old cab = pick_seen (is_own cab.asked drive) (record (seen cab) { row = drive; asked = None; is_refused = false })
-    (record (seen cab) {
-      row = drive;
-      command = if is_no_command drive old cab then None else Some drive;
-      is_held = is_no_command drive old cab;
-      asked = still_asked cab.asked drive;
-      is_refused = false;
-      told = if drives drive then cab.told else None;
-    })
-    (record cab { row = drive; asked = None; is_refused = false })
-    (record cab {
-      row = drive;
-      command = if is_no_command drive old cab then None else Some drive;
-      is_held = is_no_command drive old cab;
-      asked = still_asked cab.asked drive;
-      is_refused = false;
-      told = if drives drive then cab.told else None;
-    }) refl refl
+row_seen drive old cab = picks IsSeen (is_own cab.asked drive) (noted_answer drive (seen cab))
+    (noted_command drive (is_no_command drive old cab) (seen cab))
+    (with_answer drive cab) (with_command drive (is_no_command drive old cab) cab) refl refl
 
 -- a report: what is awaited leaves what is noted
 hand_seen : (drive : Drive) (cab : Cab) (x y : Option Drive)
-    → (if is_some x then seen cab else option_map_or
-    (λ told. if is_alike told drive then seen cab else record (seen cab) { command = Some drive; is_refused = false; told = Some drive })
-    y (seen cab))
+    → (if is_some x then seen cab else option_map_or (λ told. if is_alike told drive then seen cab else noted_hand drive (seen cab)) y
+    (seen cab))
     ≡ seen (option_map_or (λ told. if is_same told drive then record cab { awaited = None; is_late = false } else cab) x
     (option_map_or (λ told. if is_alike told drive then cab else handed drive cab) y cab))
-hand_seen drive cab (Some a) y = either_seen (is_same a drive) (seen cab) (record cab { awaited = None; is_late = false }) cab refl refl
-hand_seen drive cab None (Some b) = pick_seen (is_alike b drive) (seen cab)
-    (record (seen cab) { command = Some drive; is_refused = false; told = Some drive }) cab (handed drive cab) refl refl
+hand_seen drive cab (Some a) y = pick (IsSeen (seen cab)) (is_same a drive) (record cab { awaited = None; is_late = false }) cab refl refl
+hand_seen drive cab None (Some b) = picks IsSeen (is_alike b drive) (seen cab)
+    (noted_hand drive (seen cab)) cab (handed drive cab) refl refl
 hand_seen drive cab None None = refl
 
 said_seen : (k : Known) (drive : Drive) (here same : Bool) (cab : Cab) → k.awaited ≡ cab.awaited
     → (if here && same then noted_said k drive (seen cab) else seen cab)
     ≡ seen (if here then (if same then reported drive cab else cab) else cab)
-said_seen k drive true same cab e = pick_seen same (noted_said k drive (seen cab)) (seen cab) (reported drive cab) cab
+said_seen k drive true same cab e = picks IsSeen same (noted_said k drive (seen cab)) (seen cab) (reported drive cab) cab
     (ap (λ (x : Option Drive). if is_some x then seen cab else option_map_or (λ told. if is_alike told drive then seen cab
-    else record (seen cab) { command = Some drive; is_refused = false; told = Some drive }) cab.told (seen cab)) e
+    else noted_hand drive (seen cab)) cab.told (seen cab)) e
     ∙ hand_seen drive cab cab.awaited cab.told) refl
 said_seen k drive false same cab e = refl
 
 cut_seen : (here cut : Bool) (cab : Cab) → (if here && cut then noted_lost (seen cab) else seen cab)
     ≡ seen (if here then (if cut then held cab else cab) else cab)
-cut_seen true cut cab = pick_seen cut (noted_lost (seen cab)) (seen cab) (held cab) cab refl refl
+cut_seen true cut cab = picks IsSeen cut (noted_lost (seen cab)) (seen cab) (held cab) cab refl refl
 cut_seen false cut cab = refl
 
 late_seen : (k : Known) (now : ℕ) (cab : Cab) → k.awaited ≡ cab.awaited → k.told_at ≡ cab.told_at
@@ -81,14 +66,15 @@ late_seen : (k : Known) (now : ℕ) (cab : Cab) → k.awaited ≡ cab.awaited �
 late_seen k now cab e at = ap (λ (x : Option Drive). if is_some x && has_passed confirms k.told_at now
     then record (seen cab) { told = None } else seen cab) e
     ∙ ap (λ (x : ℕ). if is_some cab.awaited && has_passed confirms x now then record (seen cab) { told = None } else seen cab) at
-    ∙ pick_seen (is_due now cab) (record (seen cab) { told = None }) (seen cab) (record cab { told = None; is_late = true }) cab refl refl
+    ∙ picks IsSeen (is_due now cab) (record (seen cab) { told = None }) (seen cab) (record cab { told = None; is_late = true }) cab
+    refl refl
 
 refused_seen : (x : Option Put) (n : ℕ) (cab : Cab)
     → noted_refused n x (seen cab) ≡ seen (option_map_or (λ order. cab_refused order n cab) x cab)
 refused_seen None n cab = refl
 refused_seen (Some (put.Power on)) n cab = refl
 refused_seen (Some (put.Silent m is_silent)) n cab = refl
-refused_seen (Some (put.Cab m drive)) n cab = pick_seen (n == m)
+refused_seen (Some (put.Cab m drive)) n cab = picks IsSeen (n == m)
     (record (seen cab) { command = if is_value cab.command drive then None else cab.command; asked = None; is_refused = true })
     (seen cab)
     (refused drive cab) cab (refl) refl
@@ -98,15 +84,15 @@ ordered_seen t None n cab = refl
 ordered_seen t (Some tell.StopAll) n cab = refl
 ordered_seen t (Some (tell.Power on)) n cab = refl
 ordered_seen t (Some (tell.Cab m drive)) n cab =
-    pick_seen (n == m) (record (seen cab) { told = Some drive }) (seen cab) (told drive t.clock cab) cab refl refl
+    picks IsSeen (n == m) (record (seen cab) { told = Some drive }) (seen cab) (told drive t.clock cab) cab refl refl
 
 put_seen : (x : Option Put) (n : ℕ) (cab : Cab) → noted_asked n x (seen cab) ≡ seen (cab_put x n cab)
 put_seen None n cab = refl
 put_seen (Some (put.Power on)) n cab = refl
 put_seen (Some (put.Cab m drive)) n cab =
-    pick_seen (n == m) (record (seen cab) { asked = Some drive }) (seen cab) (asked drive cab) cab refl refl
+    picks IsSeen (n == m) (record (seen cab) { asked = Some drive }) (seen cab) (asked drive cab) cab refl refl
 put_seen (Some (put.Silent m is_silent)) n cab =
-    pick_seen (n == m) (record (seen cab) { is_named = is_silent }) (seen cab) (named is_silent cab) cab refl refl
+    picks IsSeen (n == m) (record (seen cab) { is_named = is_silent }) (seen cab) (named is_silent cab) cab refl refl
 
 -- ---- the table
 
@@ -124,7 +110,7 @@ cab_heard_seen : (made : Made) (past : List Event) (event : Event) (n : ℕ) (ca
 cab_heard_seen made past (event.Row m drive listed) n cab here all tied =
     let t : Table = course made past in
     ap (λ (b : Bool). if n == m then noted_row drive (listed || not b) (seen cab) else seen cab) here
-    ∙ pick_seen (n == m) (noted_row drive (listed || not t.is_here) (seen cab)) (seen cab) (with_row drive (listed || not t.is_here) cab)
+    ∙ picks IsSeen (n == m) (noted_row drive (listed || not t.is_here) (seen cab)) (seen cab) (with_row drive (listed || not t.is_here) cab)
     cab (row_seen drive (listed || not t.is_here) cab) refl
 cab_heard_seen made past (event.Power on listed) n cab here all tied = refl
 cab_heard_seen made past event.Greeted n cab here all tied = refl

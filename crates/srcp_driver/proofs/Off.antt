@@ -8,6 +8,7 @@ use Rattle.srcp_driver.specs.Drives.{is_same_way}
 use Rattle.srcp_driver.specs.Laws.{AreNo, CutsStay, PowerStaysOff, switches_on}
 use Rattle.srcp_driver.specs.Noted.{is_hand_off, NotedPower}
 use Rattle.srcp_driver.specs.Powers.{is_cut, is_told, power_heard}
+use Rattle.srcp_driver.specs.TableLaws.{OffIsWanted}
 use Rattle.srcp_driver.specs.Runs.{course, is_here, is_power_loss, Made, order}
 use Rattle.srcp_driver.specs.Steps.{after, at, happens, next, next_put, noted, put_noted, put_refused, switched, Table, tells}
 use Rattle.srcp_driver.specs.declared.drive.Drive.{Drive}
@@ -21,13 +22,13 @@ use Rattle.srcp_driver.specs.declared.event.Tell.TheVariants as tell
 use Rattle.srcp_driver.proofs.Agree.{agrees}
 use Rattle.srcp_driver.proofs.Chosen.{order_on}
 use Rattle.srcp_driver.proofs.Notes.{seen_by}
+use Rattle.srcp_driver.proofs.Same.{pick}
+
+abbrev IsDark : Power → Type 0
+IsDark p = p.is_on ≡ false
 
 abbrev IsOff : Table → Type 0
-IsOff t = t.power.is_on ≡ false
-
-if_off : (b : Bool) (x y : Power) → x.is_on ≡ false → y.is_on ≡ false → (if b then x else y).is_on ≡ false
-if_off true x y one two = one
-if_off false x y one two = two
+IsOff t = IsDark t.power
 
 row_off : (on listed away own : Bool) (p : Bool) → (on && not listed) ≡ false → p ≡ false
     → (if on && own then p else (on && not (listed || away))) ≡ false
@@ -40,14 +41,14 @@ said_off_of : (p : Power) (x y : Option Bool) → p.is_on ≡ false
     → (option_map_or (λ told. if is_same_way told false then record p { awaited = None; is_late = false } else p) x
     (option_map_or (λ told. record p { is_on = if is_same_way told false then p.is_on else false; told = Some false }) y p)).is_on
     ≡ false
-said_off_of p (Some a) y e = if_off (is_same_way a false) (record p { awaited = None; is_late = false }) p e e
+said_off_of p (Some a) y e = pick IsDark (is_same_way a false) (record p { awaited = None; is_late = false }) p e e
 said_off_of p None (Some true) e = refl
 said_off_of p None (Some false) e = e
 said_off_of p None None e = e
 
 said_off : (t : Table) (on here : Bool) → on ≡ false → IsOff t → IsOff (if here then switched t on else t)
 said_off t true here denied e = absurd (cc)
-said_off t false true denied e = if_off (is_cut false t.power)
+said_off t false true denied e = pick IsDark (is_cut false t.power)
     (record t.power { is_on = false; told = Some false; awaited = None; is_late = false }) (power_heard false t.power) refl
     (said_off_of t.power t.power.awaited t.power.told e)
 said_off t false false denied e = e
@@ -73,7 +74,7 @@ heard_off t event.Lost denied e = refl
 heard_off t event.StopAll denied e = e
 heard_off t (event.Said m drive) denied e = said_same_off t m drive t.is_here e
 heard_off t (event.SaidPower on) denied e = said_off t on t.is_here denied e
-heard_off t (event.Moment now) denied e = if_off (is_some t.power.awaited && has_passed confirms t.power.told_at now)
+heard_off t (event.Moment now) denied e = pick IsDark (is_some t.power.awaited && has_passed confirms t.power.told_at now)
     (record t.power { told = None; is_late = true }) t.power e e
 heard_off t (event.Reply true) denied e = e
 heard_off t (event.Reply false) denied e = refused_off t t.waiting e
@@ -147,3 +148,7 @@ pub cuts_stay : CutsStay
 cuts_stay made before since newest here cut denied = stays_off made before (event.SaidPower false) since newest
     (cut_off (course made before) (is_here before) (sym (agrees made before).plain.here) here
     (ap (λ (k : NotedPower). is_hand_off k false) (sym (seen_by made before).power) ∙ cut)) denied
+
+pub off_is_wanted : OffIsWanted
+off_is_wanted made before since newest here cut denied =
+    cuts_stay made before since newest here (ap (λ (k : NotedPower). is_hand_off k false) (seen_by made before).power ∙ cut) denied

@@ -19,6 +19,7 @@ use Rattle.srcp_driver.specs.declared.event.Put.TheVariants as put
 use Rattle.srcp_driver.specs.declared.event.Tell.TheVariants as tell
 use Rattle.srcp_driver.proofs.Chosen.{cab_room, on_room}
 use Rattle.srcp_driver.proofs.Each.{heard_length, ordered_length, power_length, put_length, refused_length, said_length}
+use Rattle.srcp_driver.proofs.Same.{pick}
 
 -- what events and orders say: of each locomotive; whether the station is there, and is still to be told that all stop;
 -- the last moment, that of the power, and how many orders were told since
@@ -89,20 +90,20 @@ calm made past event u plain here stops now on told here' stops' now' on' pace' 
     (ap (λ (b : Bool). b || owes_stop made past) stops) now on
     (ap (λ (b : Bool). if b then 0 else told_since made past) told) here' stops' now' on' pace' left' long'
 
-if_on_at : (b : Bool) (x y : Power) (at : ℕ) → x.on_at ≡ at → y.on_at ≡ at → (if b then x else y).on_at ≡ at
-if_on_at true x y at one two = one
-if_on_at false x y at one two = two
+-- the power was switched on at this moment
+abbrev WasOn : ℕ → Power → Type 0
+WasOn at p = p.on_at ≡ at
 
 reported_of : (on : Bool) (p : Power) (x y : Option Bool)
     → (option_map_or (λ told. if is_same_way told on then record p { awaited = None; is_late = false } else p) x
     (option_map_or (λ told. record p { is_on = if is_same_way told on then p.is_on else on; told = Some on }) y p)).on_at ≡ p.on_at
-reported_of on p (Some a) y = if_on_at (is_same_way a on) (record p { awaited = None; is_late = false }) p p.on_at refl refl
+reported_of on p (Some a) y = pick (WasOn p.on_at) (is_same_way a on) (record p { awaited = None; is_late = false }) p refl refl
 reported_of on p None (Some a) = refl
 reported_of on p None None = refl
 
 aged_on_at : (now : ℕ) (p : Power) → (power_aged now p).on_at ≡ p.on_at
-aged_on_at now p = if_on_at (is_some p.awaited && has_passed confirms p.told_at now) (record p { told = None; is_late = true })
-    p p.on_at refl refl
+aged_on_at now p = pick (WasOn p.on_at) (is_some p.awaited && has_passed confirms p.told_at now)
+    (record p { told = None; is_late = true }) p refl refl
 
 said_plain : (made : Made) (past : List Event) (m : ℕ) (drive : Drive) (here : Bool)
     → Plain made (facts made past) (course made past) → Plain made (facts_heard made past (event.Said m drive))
@@ -118,9 +119,9 @@ power_plain : (made : Made) (past : List Event) (on here : Bool) → Plain made 
     (if here then switched (course made past) on else course made past)
 power_plain made past on true p = calm made past (event.SaidPower on) (switched (course made past) on) p refl refl refl refl
     refl refl refl refl
-    (if_on_at (is_cut on (course made past).power)
+    (pick (WasOn (course made past).power.on_at) (is_cut on (course made past).power)
     (record (course made past).power { is_on = false; told = Some false; awaited = None; is_late = false })
-    (power_heard on (course made past).power) (course made past).power.on_at refl
+    (power_heard on (course made past).power) refl
     (reported_of on (course made past).power (course made past).power.awaited (course made past).power.told))
     refl refl (power_length (course made past) on true (is_cut on (course made past).power))
 power_plain made past on false p = calm made past (event.SaidPower on) (course made past) p refl refl refl refl refl refl refl

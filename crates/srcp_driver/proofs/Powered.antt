@@ -10,6 +10,7 @@ use Rattle.srcp_driver.specs.Laws.{AreNo}
 use Rattle.srcp_driver.specs.Noted.{asks, NotedPower, power_noted, power_noted_asked, power_noted_heard, power_noted_said, power_noted_told}
 use Rattle.srcp_driver.specs.Noted.{power_notes}
 use Rattle.srcp_driver.specs.Powers.{is_told}
+use Rattle.srcp_driver.specs.TableLaws.{OnIsWanted}
 use Rattle.srcp_driver.specs.Runs.{heard, is_here, Made, moment, order}
 use Rattle.srcp_driver.specs.declared.event.Event.{Event}
 use Rattle.srcp_driver.specs.declared.event.Put.{Put}
@@ -19,18 +20,18 @@ use Rattle.srcp_driver.specs.declared.event.Event.TheVariants as event
 use Rattle.srcp_driver.specs.declared.event.Put.TheVariants as put
 use Rattle.srcp_driver.specs.declared.event.Tell.TheVariants as tell
 use Rattle.srcp_driver.proofs.Chosen.{order_off}
-use Rattle.srcp_driver.proofs.Notes.{all_seen}
+use Rattle.srcp_driver.proofs.Notes.{all_seen, seen_by}
+use Rattle.srcp_driver.proofs.Same.{pick}
 use Rattle.srcp_driver.proofs.Tracks.{track_is_commanded}
 
-pick_on : (b : Bool) (x y : NotedPower) → x.command ≡ true → y.command ≡ true → (if b then x else y).command ≡ true
-pick_on true x y one two = one
-pick_on false x y one two = two
+abbrev IsOnNow : NotedPower → Type 0
+IsOnNow noted = noted.command ≡ true
 
 said_on_of : (noted : NotedPower) (x y : Option Bool) → noted.command ≡ true
     → (option_map_or (λ told. if is_same_way told true then record noted { awaited = None } else noted) x
     (option_map_or (λ told. record noted { command = if is_same_way told true then noted.command else true; told = Some true }) y
     noted)).command ≡ true
-said_on_of noted (Some a) y e = pick_on (is_same_way a true) (record noted { awaited = None }) noted e e
+said_on_of noted (Some a) y e = pick IsOnNow (is_same_way a true) (record noted { awaited = None }) noted e e
 said_on_of noted None (Some true) e = e
 said_on_of noted None (Some false) e = refl
 said_on_of noted None None e = e
@@ -51,7 +52,7 @@ heard_on here event.Lost noted denied e = absurd (cc)
 heard_on here event.StopAll noted denied e = e
 heard_on here (event.Said m drive) noted denied e = e
 heard_on here (event.SaidPower on) noted denied e = said_on here on noted denied e
-heard_on here (event.Moment now) noted denied e = pick_on (is_some noted.awaited && has_passed confirms noted.told_at now)
+heard_on here (event.Moment now) noted denied e = pick IsOnNow (is_some noted.awaited && has_passed confirms noted.told_at now)
     (record noted { told = None }) noted e e
 heard_on here (event.Reply accepted) noted denied e = e
 heard_on here event.Joined noted denied e = e
@@ -88,6 +89,11 @@ row_on : (own here before : Bool) → own ≡ false → here ≡ true
 row_on false true before o h = refl
 row_on false false before o h = absurd (cc)
 row_on true here before o h = absurd (cc)
+
+pub on_is_wanted : OnIsWanted
+on_is_wanted made past here own = ap (λ (k : NotedPower). k.command) (sym (all_seen made past (event.Power true false)).power)
+    ∙ row_on (is_told (power_noted made past).asked true) (is_here past) (power_noted made past).command
+    (ap (λ (k : NotedPower). is_told k.asked true) (seen_by made past).power ∙ own) here
 
 cut_no : (on told may : Bool) → on ≡ true → (not on && not told && may) ≡ true → ⊥
 cut_no true told may is e = absurd (cc)

@@ -14,7 +14,8 @@ use Rattle.srcp_driver.specs.Noted.{Noted, noted_by, NotedPower, power_noted, to
 use Rattle.srcp_driver.specs.Powers.{is_power_to_put}
 use Rattle.srcp_driver.specs.Runs.{course, Known, known, told_so}
 use Rattle.srcp_driver.specs.declared.event.Event.{Event}
-use Rattle.srcp_driver.specs.Steps.{first_name, first_put, put_noted, Table}
+use Rattle.srcp_driver.specs.TableLaws.{IsCabAsked, IsCabRow, TableIsAsked}
+use Rattle.srcp_driver.specs.Steps.{first_name, first_put, next_put, put_noted, Table}
 use Rattle.srcp_driver.specs.declared.cab.Cab.{Cab}
 use Rattle.srcp_driver.specs.declared.drive.Drive.{Drive}
 use Rattle.srcp_driver.specs.declared.event.Put.{Put}
@@ -61,18 +62,14 @@ some_asked : (x : Option Drive) → is_none x ≡ false → is_some x ≡ true
 some_asked None e = absurd (cc)
 some_asked (Some drive) e = refl
 
--- the row of a locomotive, by the table
-abbrev IsRowCab : Cab → Type 0
-IsRowCab cab = (cab.row ≡ wanted cab) ⊎ ((is_some cab.asked ≡ true) ⊎ (cab.is_refused ≡ true))
-
 row_of : (cab : Cab) (same none refused : Bool) → is_same cab.row (wanted cab) ≡ same → is_none cab.asked ≡ none
-    → cab.is_refused ≡ refused → (not same && none && not refused) ≡ false → IsRowCab cab
+    → cab.is_refused ≡ refused → (not same && none && not refused) ≡ false → IsCabRow cab
 row_of cab true none refused s n r e = inl (same_drive cab.row (wanted cab) s)
 row_of cab false false refused s n r e = inr (inl (some_asked cab.asked n))
 row_of cab false true true s n r e = inr (inr r)
 row_of cab false true false s n r e = absurd (cc)
 
-row_by : (k : Noted) (cab : Cab) → k ≡ seen cab → IsRowCab cab → IsRow k
+row_by : (k : Noted) (cab : Cab) → k ≡ seen cab → IsCabRow cab → IsRow k
 row_by k cab e (inl same) = inl (ap (λ (k : Noted). k.row) e ∙ same ∙ sym (ap to_do e))
 row_by k cab e (inr (inl asked)) = inr (inl (ap (λ (k : Noted). is_some k.asked) e ∙ asked))
 row_by k cab e (inr (inr refused)) = inr (inr (ap (λ (k : Noted). k.is_refused) e ∙ refused))
@@ -101,6 +98,20 @@ power_row_of k p true none e s n denied = inl (ap (λ (k : NotedPower). k.row) e
 power_row_of k p false false e s n denied = inr (ap (λ (k : NotedPower). is_some k.asked) e ∙ some_on p.asked n)
 power_row_of k p false true e s n denied = absurd (cc)
 
+cab_asked : (t : Table) (n : ℕ) (cab : Cab) → next_put t ≡ None → t.waiting ≡ None → slice_get t.cabs n ≡ Some cab → IsCabAsked t cab
+cab_asked t n cab e free is =
+    let none = none_put t t.waiting (is_power_to_put t.power) free e in
+    record {
+      row = row_of cab (is_same cab.row (wanted cab)) (is_none cab.asked) cab.is_refused refl refl refl
+          (asks_of (λ cab m. put.Cab m (wanted cab)) is_to_put t.cabs n (position is_to_put t.cabs) cab refl none.one is);
+      silent = same_way (is_silent t.clock cab) cab.is_named (not_false (is_same_way (is_silent t.clock cab) cab.is_named)
+          (asks_of (λ cab m. put.Silent m (is_silent t.clock cab)) (is_to_name t.clock) t.cabs n
+          (position (is_to_name t.clock) t.cabs) cab refl none.two is));
+    }
+
+pub table_is_asked : TableIsAsked
+table_is_asked made past event n cab e free is = cab_asked (told_so made past event) n cab e free is
+
 pub registry_is_track : RegistryIsTrack
 registry_is_track made past event e waits =
     let now : List Event = event ∷ past in
@@ -110,21 +121,15 @@ registry_is_track made past event e waits =
     let seen : Seen (unreplied made now) (power_noted made now) (λ n. noted_by made n now) t =
     subst (λ (u : Table). Seen (unreplied made now) (power_noted made now) (λ n. noted_by made n now) u) same (seen_by made now) in
     let free : t.waiting ≡ None = sym seen.waits ∙ waits in
-    let none = none_put t t.waiting (is_power_to_put t.power) free e in
     record {
       row = λ n lt.
           let one : Placed (facts made now) t n = placed made (facts made now) t n agree lt in
-          row_by (noted_by made n now) one.cab (seen.cabs n one.cab one.is)
-          (row_of one.cab (is_same one.cab.row (wanted one.cab)) (is_none one.cab.asked) one.cab.is_refused refl refl refl
-          (asks_of (λ cab m. put.Cab m (wanted cab)) is_to_put t.cabs n (position is_to_put t.cabs) one.cab refl none.one one.is));
+          row_by (noted_by made n now) one.cab (seen.cabs n one.cab one.is) (cab_asked t n one.cab e free one.is).row;
       silent = λ n lt.
           let one : Placed (facts made now) t n = placed made (facts made now) t n agree lt in
           ap (λ (at : ℕ). is_some (known made n now).awaited && has_passed silence (known made n now).since at) agree.plain.now
           ∙ silent_by (noted_by made n now) (known made n now) one.cab t.clock (seen.cabs n one.cab one.is) one.tied
-          (same_way (is_silent t.clock one.cab) one.cab.is_named
-          (not_false (is_same_way (is_silent t.clock one.cab) one.cab.is_named)
-          (asks_of (λ cab m. put.Silent m (is_silent t.clock cab)) (is_to_name t.clock) t.cabs n
-          (position (is_to_name t.clock) t.cabs) one.cab refl none.two one.is)));
+          (cab_asked t n one.cab e free one.is).silent;
       power = power_row_of (power_noted made now) t.power (is_same_way t.power.row t.power.is_on) (is_none t.power.asked)
           seen.power refl refl (power_none t t.waiting (is_power_to_put t.power) free e);
     }

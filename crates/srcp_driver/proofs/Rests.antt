@@ -5,18 +5,18 @@ use Rattle.std.specs.Option.{option_map_or}
 use Rattle.std.specs.Prelude.{if◌then◌else◌, is_some, ◌||◌}
 use Rattle.srcp_driver.specs.Cabs.{has_passed, confirms}
 use Rattle.srcp_driver.specs.CommandLaws.{may_differ, RestsCount}
-use Rattle.srcp_driver.specs.Drives.{drives, is_alike, is_same, is_value, rest}
-use Rattle.srcp_driver.specs.Noted.{is_answer, is_cut_off, is_denied, Noted, noted_by, noted_heard, noted_lost}
-use Rattle.srcp_driver.specs.Noted.{noted_refused, noted_row, noted_said, unreplied}
-use Rattle.srcp_driver.specs.Runs.{is_here, Known, known, Made}
+use Rattle.srcp_driver.specs.Drives.{drives, is_same, is_value, rest}
+use Rattle.srcp_driver.specs.Noted.{is_answer, is_cut_off, is_denied, Noted, noted_answer, noted_by, noted_command, noted_heard, noted_lost}
+use Rattle.srcp_driver.specs.Noted.{noted_refused, noted_row, unreplied}
+use Rattle.srcp_driver.specs.Runs.{is_here, known, Made}
 use Rattle.srcp_driver.specs.declared.drive.Drive.{Drive}
 use Rattle.srcp_driver.specs.declared.event.Event.{Event}
 use Rattle.srcp_driver.specs.declared.event.Put.{Put}
 use Rattle.srcp_driver.specs.declared.event.Event.TheVariants as event
 use Rattle.srcp_driver.specs.declared.event.Put.TheVariants as put
 use Rattle.srcp_driver.specs.declared.drive.Speed.TheVariants as speed
-use Rattle.srcp_driver.proofs.Counts.{counts, pick_else, pick_noted, row_does, self, Stays}
-use Rattle.srcp_driver.proofs.Same.{not_false, same_drive}
+use Rattle.srcp_driver.proofs.Counts.{counts, row_does, said_keeps, self, Stays}
+use Rattle.srcp_driver.proofs.Same.{pick, pick_else}
 
 -- its row says this, and it is commanded to do this, or nothing
 record Rests (drive : Drive) (noted : Noted) : Type 0 where
@@ -44,22 +44,6 @@ rests_to_do drive noted (Some x) still is (inr same) = cc
 rests_lost : (drive : Drive) (noted : Noted) → Rests drive noted → Rests drive (noted_lost noted)
 rests_lost drive noted e = record { row = e.row; command = inl refl }
 
-said_rests_of : (drive other : Drive) (noted : Noted) (waits : Bool) (told : Option Drive) → other ≡ drive → Rests drive noted
-    → Rests drive (if waits then noted else option_map_or (λ told. if is_alike told other then noted
-    else record noted { command = Some other; is_refused = false; told = Some other }) told noted)
-said_rests_of drive other noted true told same e = e
-said_rests_of drive other noted false None same e = e
-said_rests_of drive other noted false (Some told) same e = pick_noted (Rests drive) (is_alike told other) noted
-    (record noted { command = Some other; is_refused = false; told = Some other }) e
-    (record { row = e.row; command = inr (ap (λ (d : Drive). Some d) same) })
-
-said_rests : (drive other : Drive) (known : Known) (here same : Bool) (noted : Noted) → (same && not (is_same other drive)) ≡ false
-    → Rests drive noted → Rests drive (if here && same then noted_said known other noted else noted)
-said_rests drive other known false same noted denied e = e
-said_rests drive other known true false noted denied e = e
-said_rests drive other known true true noted denied e =
-    said_rests_of drive other noted (is_some known.awaited) noted.told (same_drive other drive (not_false (is_same other drive) denied)) e
-
 none_rests : (b : Bool) (x : Option Drive) (drive : Drive) → (x ≡ None) ⊎ (x ≡ Some drive)
     → ((if b then None else x) ≡ None) ⊎ ((if b then None else x) ≡ Some drive)
 none_rests true x drive e = inl refl
@@ -69,7 +53,7 @@ refused_rests : (drive : Drive) (n : ℕ) (x : Option Put) (noted : Noted) → R
 refused_rests drive n None noted e = e
 refused_rests drive n (Some (put.Power on)) noted e = e
 refused_rests drive n (Some (put.Silent m is_silent)) noted e = e
-refused_rests drive n (Some (put.Cab m other)) noted e = pick_noted (Rests drive) (n == m)
+refused_rests drive n (Some (put.Cab m other)) noted e = pick (Rests drive) (n == m)
     (record noted { command = if is_value noted.command other then None else noted.command; asked = None; is_refused = true }) noted
     (record { row = e.row; command = none_rests (is_value noted.command other) noted.command drive e.command }) e
 
@@ -83,10 +67,11 @@ rests_heard made n drive past event.Gone noted denied e = rests_lost drive noted
 rests_heard made n drive past event.Lost noted denied e = rests_lost drive noted e
 rests_heard made n drive past event.StopAll noted denied e = rests_lost drive noted e
 rests_heard made n drive past (event.Said m other) noted denied e =
-    said_rests drive other (known made n past) (is_here past) (n == m) noted denied e
-rests_heard made n drive past (event.SaidPower on) noted denied e = pick_noted (Rests drive)
+    said_keeps (Rests drive) drive other (known made n past) (is_here past) (n == m) noted denied
+    (record { row = e.row; command = inr refl }) e
+rests_heard made n drive past (event.SaidPower on) noted denied e = pick (Rests drive)
     (is_cut_off made past (event.SaidPower on)) (noted_lost noted) noted (rests_lost drive noted e) e
-rests_heard made n drive past (event.Moment now) noted denied e = pick_noted (Rests drive)
+rests_heard made n drive past (event.Moment now) noted denied e = pick (Rests drive)
     (is_some (known made n past).awaited && has_passed confirms (known made n past).told_at now) (record noted { told = None }) noted
     (record { row = e.row; command = e.command }) e
 rests_heard made n drive past (event.Reply true) noted denied e = e
@@ -100,15 +85,7 @@ still_answer true same e = absurd (cc)
 still_answer false same e = refl
 
 row_says : (drive : Drive) (answer denied : Bool) (noted : Noted)
-    → (if answer then record noted { row = drive; asked = None; is_refused = false }
-    else record noted {
-      row = drive;
-      command = if denied then None else Some drive;
-      is_held = denied;
-      asked = if is_value noted.asked drive then None else noted.asked;
-      is_refused = false;
-      told = if drives drive then noted.told else None;
-    }).row ≡ drive
+    → (if answer then noted_answer drive noted else noted_command drive denied noted).row ≡ drive
 row_says drive true denied noted = refl
 row_says drive false denied noted = refl
 

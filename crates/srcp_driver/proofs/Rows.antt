@@ -2,8 +2,9 @@
 use Rattle.std.proofs.Common.{◌++◌, ◌==◌, [], ap, Bool, false, List, None, not, Option, refl, Some, subst, sym, true, ℕ, ◌∙◌, ◌∷◌, ◌≡◌}
 use Rattle.std.specs.Option.{option_map_or}
 use Rattle.std.specs.Prelude.{if◌then◌else◌, ◌||◌}
-use Rattle.srcp_driver.specs.Cabs.{handed, held, is_due, is_no_command, is_own, is_silent, refused, reported, still_asked, told, with_row}
-use Rattle.srcp_driver.specs.Drives.{drives, is_alike, is_same}
+use Rattle.srcp_driver.specs.Cabs.{handed, held, is_due, is_no_command, is_own, is_silent, refused, reported, told, with_answer}
+use Rattle.srcp_driver.specs.Cabs.{with_command, with_row}
+use Rattle.srcp_driver.specs.Drives.{is_alike, is_same}
 use Rattle.srcp_driver.specs.Laws.{AreNo, is_row}
 use Rattle.srcp_driver.specs.Powers.{is_cut}
 use Rattle.srcp_driver.specs.Runs.{course, Made}
@@ -19,7 +20,7 @@ use Rattle.srcp_driver.specs.declared.event.Tell.TheVariants as tell
 use Rattle.srcp_driver.proofs.Chosen.{quiet}
 use Rattle.srcp_driver.proofs.Each.{cab_heard, cab_ordered, cab_refused, Each, each_heard, each_ordered, each_put_keeps}
 use Rattle.srcp_driver.proofs.Lists.{changed_at, here_at}
-use Rattle.srcp_driver.proofs.Same.{pick}
+use Rattle.srcp_driver.proofs.Same.{pick, pick_else}
 use Rattle.srcp_driver.proofs.Waits.{Of}
 
 -- its row is this
@@ -28,44 +29,34 @@ HasRow row cab = cab.row ≡ row
 
 -- ---- the row, until another comes
 
-pick_row : (row : Drive) (b : Bool) (x y : Cab) → HasRow row x → HasRow row y → HasRow row (if b then x else y)
-pick_row row b x y one two = pick (HasRow row) b x y one two
-
 said_row_of : (row drive : Drive) (cab : Cab) (x y : Option Drive) → HasRow row cab
     → HasRow row (option_map_or (λ told. if is_same told drive then record cab { awaited = None; is_late = false } else cab) x
     (option_map_or (λ told. if is_alike told drive then cab else handed drive cab) y cab))
-said_row_of row drive cab (Some a) y e = pick_row row (is_same a drive) (record cab { awaited = None; is_late = false }) cab e e
-said_row_of row drive cab None (Some x) e = pick_row row (is_alike x drive) cab (handed drive cab) e e
+said_row_of row drive cab (Some a) y e = pick (HasRow row) (is_same a drive) (record cab { awaited = None; is_late = false }) cab e e
+said_row_of row drive cab None (Some x) e = pick (HasRow row) (is_alike x drive) cab (handed drive cab) e e
 said_row_of row drive cab None None e = e
-
-here_row : (row : Drive) (here : Bool) (x y : Cab) → HasRow row x → HasRow row y → HasRow row (if here then x else y)
-here_row row here x y one two = pick (HasRow row) here x y one two
 
 refused_row : (row : Drive) (x : Option Put) (n : ℕ) (cab : Cab) → HasRow row cab
     → HasRow row (option_map_or (λ order. cab_refused order n cab) x cab)
 refused_row row None n cab e = e
 refused_row row (Some (put.Power on)) n cab e = e
 refused_row row (Some (put.Silent m is_silent)) n cab e = e
-refused_row row (Some (put.Cab m drive)) n cab e = pick_row row (n == m) (refused drive cab) cab e e
-
-other_row : (row : Drive) (b : Bool) (x y : Cab) → b ≡ false → HasRow row y → HasRow row (if b then x else y)
-other_row row true x y denied e = absurd (cc)
-other_row row false x y denied e = e
+refused_row row (Some (put.Cab m drive)) n cab e = pick (HasRow row) (n == m) (refused drive cab) cab e e
 
 pub heard_row : (row : Drive) (t : Table) (event : Event) (n : ℕ) (cab : Cab) → is_row n event ≡ false → HasRow row cab
     → HasRow row (cab_heard t event n cab)
 heard_row row t (event.Row m drive listed) n cab denied e =
-    other_row row (n == m) (with_row drive (listed || not t.is_here) cab) cab denied e
+    pick_else (HasRow row) (n == m) (with_row drive (listed || not t.is_here) cab) cab denied e
 heard_row row t (event.Power on listed) n cab denied e = e
 heard_row row t event.Greeted n cab denied e = e
 heard_row row t event.Gone n cab denied e = e
 heard_row row t event.Lost n cab denied e = e
 heard_row row t event.StopAll n cab denied e = e
-heard_row row t (event.Said m drive) n cab denied e = here_row row t.is_here (if n == m then reported drive cab else cab) cab
-    (pick_row row (n == m) (reported drive cab) cab (said_row_of row drive cab cab.awaited cab.told e) e) e
-heard_row row t (event.SaidPower on) n cab denied e = here_row row t.is_here (if is_cut on t.power then held cab else cab) cab
-    (pick_row row (is_cut on t.power) (held cab) cab e e) e
-heard_row row t (event.Moment now) n cab denied e = pick_row row (is_due now cab) (record cab { told = None; is_late = true }) cab e e
+heard_row row t (event.Said m drive) n cab denied e = pick (HasRow row) t.is_here (if n == m then reported drive cab else cab) cab
+    (pick (HasRow row) (n == m) (reported drive cab) cab (said_row_of row drive cab cab.awaited cab.told e) e) e
+heard_row row t (event.SaidPower on) n cab denied e = pick (HasRow row) t.is_here (if is_cut on t.power then held cab else cab) cab
+    (pick (HasRow row) (is_cut on t.power) (held cab) cab e e) e
+heard_row row t (event.Moment now) n cab denied e = pick (HasRow row) (is_due now cab) (record cab { told = None; is_late = true }) cab e e
 heard_row row t (event.Reply true) n cab denied e = e
 heard_row row t (event.Reply false) n cab denied e = refused_row row t.waiting n cab e
 heard_row row t event.Joined n cab denied e = e
@@ -75,7 +66,7 @@ pub ordered_row : (row : Drive) (t : Table) (x : Option Tell) (n : ℕ) (cab : C
 ordered_row row t None n cab e = e
 ordered_row row t (Some tell.StopAll) n cab e = e
 ordered_row row t (Some (tell.Power on)) n cab e = e
-ordered_row row t (Some (tell.Cab m drive)) n cab e = pick_row row (n == m) (told drive t.clock cab) cab e e
+ordered_row row t (Some (tell.Cab m drive)) n cab e = pick (HasRow row) (n == m) (told drive t.clock cab) cab e e
 
 pub after_row : (row : Drive) (n : ℕ) (t : Table) (event : Event) → Each (Of n (HasRow row)) (happens t event).cabs
     → Each (Of n (HasRow row)) (after t event).cabs
@@ -88,15 +79,7 @@ after_row row n t event all =
 
 -- the row is what it says
 own_row : (drive : Drive) (old own denied : Bool) (cab : Cab) → HasRow drive
-    (if own then record cab { row = drive; asked = None; is_refused = false }
-    else record cab {
-      row = drive;
-      command = if denied then None else Some drive;
-      is_held = denied;
-      asked = still_asked cab.asked drive;
-      is_refused = false;
-      told = if drives drive then cab.told else None;
-    })
+    (if own then with_answer drive cab else with_command drive denied cab)
 own_row drive old true denied cab = refl
 own_row drive old false denied cab = refl
 

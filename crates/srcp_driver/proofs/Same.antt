@@ -3,7 +3,6 @@ use Rattle.std.proofs.Common.{◌&&◌, ap, Bool, false, None, not, Option, refl
 use Rattle.std.proofs.lemmas.Bool.{eq-eqb, eqb-true}
 use Rattle.std.specs.Prelude.{if◌then◌else◌, ◌||◌}
 use Rattle.srcp_driver.specs.Drives.{drives, is_same, is_same_speed, is_same_way, is_value, rest}
-use Rattle.srcp_driver.specs.declared.cab.Cab.{Cab}
 use Rattle.srcp_driver.specs.declared.drive.Drive.{Drive}
 use Rattle.srcp_driver.specs.declared.drive.Speed.{Speed}
 use Rattle.srcp_driver.specs.declared.drive.Speed.TheVariants as speed
@@ -88,7 +87,20 @@ pub or_left : (a b : Bool) → a ≡ true → (a || b) ≡ true
 or_left true b e = refl
 or_left false b e = absurd (cc)
 
--- of two locomotives that keep something, the one that a test picks
-pub pick : (P : Cab → Type 0) (b : Bool) (x y : Cab) → P x → P y → P (if b then x else y)
+-- ---- what a test picks
+
+-- of two that keep something
+pub pick : {X : Type 0} (P : X → Type 0) (b : Bool) (x y : X) → P x → P y → P (if b then x else y)
 pick P true x y p q = p
 pick P false x y p q = q
+
+-- .. if the test fails
+pub pick_else : {X : Type 0} (P : X → Type 0) (b : Bool) (x y : X) → b ≡ false → P y → P (if b then x else y)
+pick_else P true x y denied q = absurd (cc)
+pick_else P false x y denied q = q
+
+-- of two pairs that agree
+pub picks : {X Y : Type 0} (R : X → Y → Type 0) (b : Bool) (k l : X) (x y : Y) → R k x → R l y
+    → R (if b then k else l) (if b then x else y)
+picks R true k l x y p q = p
+picks R false k l x y p q = q

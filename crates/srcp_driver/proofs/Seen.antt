@@ -19,6 +19,7 @@ use Rattle.srcp_driver.specs.declared.power.Power.{Power}
 use Rattle.srcp_driver.specs.declared.event.Event.TheVariants as event
 use Rattle.srcp_driver.specs.declared.event.Put.TheVariants as put
 use Rattle.srcp_driver.specs.declared.event.Tell.TheVariants as tell
+use Rattle.srcp_driver.proofs.Same.{picks}
 
 -- what may be noted of a locomotive, and of the power
 abbrev pub seen : Cab → Noted
@@ -42,19 +43,12 @@ power_seen p = record {
   told_at = p.told_at;
 }
 
--- a test picks the same
-pub pick_seen : (b : Bool) (k l : Noted) (x y : Cab) → k ≡ seen x → l ≡ seen y → (if b then k else l) ≡ seen (if b then x else y)
-pick_seen true k l x y one two = one
-pick_seen false k l x y one two = two
+-- this is noted of the locomotive, and of the power
+abbrev pub IsSeen : Noted → Cab → Type 0
+IsSeen k cab = k ≡ seen cab
 
-pub either_seen : (b : Bool) (k : Noted) (x y : Cab) → k ≡ seen x → k ≡ seen y → k ≡ seen (if b then x else y)
-either_seen true k x y one two = one
-either_seen false k x y one two = two
-
-pick_power : (b : Bool) (k l : NotedPower) (x y : Power) → k ≡ power_seen x → l ≡ power_seen y
-    → (if b then k else l) ≡ power_seen (if b then x else y)
-pick_power true k l x y one two = one
-pick_power false k l x y one two = two
+abbrev IsPowerSeen : NotedPower → Power → Type 0
+IsPowerSeen k p = k ≡ power_seen p
 
 -- ---- the order to the registry
 
@@ -111,7 +105,7 @@ power_said_of : (on : Bool) (p : Power) (cut : Bool) (x y : Option Bool)
     else option_map_or (λ told. if is_same_way told on then record p { awaited = None; is_late = false } else p) x
     (option_map_or (λ told. record p { is_on = if is_same_way told on then p.is_on else on; told = Some on }) y p))
 power_said_of on p true x y = refl
-power_said_of on p false (Some a) y = pick_power (is_same_way a on) (record (power_seen p) { awaited = None }) (power_seen p)
+power_said_of on p false (Some a) y = picks IsPowerSeen (is_same_way a on) (record (power_seen p) { awaited = None }) (power_seen p)
     (record p { awaited = None; is_late = false }) p refl refl
 power_said_of on p false None (Some b) = refl
 power_said_of on p false None None = refl
@@ -144,7 +138,7 @@ power_heard_seen t event.StopAll = refl
 power_heard_seen t (event.Said m drive) = power_unsaid t m drive t.is_here
 power_heard_seen t (event.SaidPower on) = power_said t on t.is_here
 power_heard_seen t (event.Moment now) =
-    pick_power (is_some t.power.awaited && has_passed confirms t.power.told_at now) (record (power_seen t.power) { told = None })
+    picks IsPowerSeen (is_some t.power.awaited && has_passed confirms t.power.told_at now) (record (power_seen t.power) { told = None })
     (power_seen t.power) (record t.power { told = None; is_late = true }) t.power refl refl
 power_heard_seen t (event.Reply true) = refl
 power_heard_seen t (event.Reply false) = power_refused t t.waiting

@@ -2,8 +2,8 @@
 use Rattle.std.proofs.Common.{◌&&◌, ◌==◌, ap, Bool, false, inl, inr, None, not, Option, refl, Some, subst, sym, true, ℕ, ◌∙◌, ◌≡◌, ◌⊎◌}
 use Rattle.std.specs.Option.{option_map_or}
 use Rattle.std.specs.Prelude.{if◌then◌else◌, ◌||◌}
-use Rattle.srcp_driver.specs.Cabs.{aged, asked, forgotten, handed, held, is_due, is_no_command, is_own, is_silent, named, refused}
-use Rattle.srcp_driver.specs.Cabs.{reported, still_asked, told, with_row}
+use Rattle.srcp_driver.specs.Cabs.{aged, asked, forgotten, handed, held, is_due, is_no_command, is_own, is_silent, named, refused, reported}
+use Rattle.srcp_driver.specs.Cabs.{told, with_answer, with_command, with_row}
 use Rattle.srcp_driver.specs.Drives.{drives, is_alike, is_same, is_same_way}
 use Rattle.srcp_driver.specs.Powers.{is_cut}
 use Rattle.srcp_driver.specs.Runs.{Known, known_heard, known_ordered, known_said, known_told}
@@ -17,7 +17,7 @@ use Rattle.srcp_driver.specs.declared.event.Event.TheVariants as event
 use Rattle.srcp_driver.specs.declared.event.Put.TheVariants as put
 use Rattle.srcp_driver.specs.declared.event.Tell.TheVariants as tell
 use Rattle.srcp_driver.proofs.Each.{cab_heard, cab_ordered, cab_refused}
-use Rattle.srcp_driver.proofs.Same.{pick}
+use Rattle.srcp_driver.proofs.Same.{pick, picks}
 
 -- what the table says of a locomotive, unless that may be lost, is known
 pub record Tied (known : Known) (cab : Cab) : Type 0 where
@@ -25,14 +25,6 @@ pub record Tied (known : Known) (cab : Cab) : Type 0 where
   pub awaited : known.awaited ≡ cab.awaited
   pub told_at : known.told_at ≡ cab.told_at
   pub since : known.since ≡ cab.since
-
--- the same test picks what is known and what is so
-pick_tied : (b : Bool) (k l : Known) (x y : Cab) → Tied k x → Tied l y → Tied (if b then k else l) (if b then x else y)
-pick_tied true k l x y one two = one
-pick_tied false k l x y one two = two
-
-here_tied : (b : Bool) (k : Known) (x y : Cab) → Tied k x → Tied k y → Tied k (if b then x else y)
-here_tied b k x y one two = pick (Tied k) b x y one two
 
 lost : (k : Known) (cab : Cab) → Tied k cab → Tied k (held cab)
 lost k cab e = record { does = inl refl; awaited = e.awaited; told_at = e.told_at; since = e.since }
@@ -47,21 +39,13 @@ row_does true does told e = e
 row_does false does told e = inl refl
 
 row_tied : (drive : Drive) (old : Bool) (k : Known) (cab : Cab) → Tied k cab → Tied k (with_row drive old cab)
-row_tied drive old k cab e = here_tied (is_own cab.asked drive) k
-    (record cab { row = drive; asked = None; is_refused = false })
-    (record cab {
-      row = drive;
-      command = if is_no_command drive old cab then None else Some drive;
-      is_held = is_no_command drive old cab;
-      asked = still_asked cab.asked drive;
-      is_refused = false;
-      told = if drives drive then cab.told else None;
-    })
+row_tied drive old k cab e = pick (Tied k) (is_own cab.asked drive)
+    (with_answer drive cab) (with_command drive (is_no_command drive old cab) cab)
     (record { does = e.does; awaited = e.awaited; told_at = e.told_at; since = e.since })
     (record { does = row_does (drives drive) k.does cab.told e.does; awaited = e.awaited; told_at = e.told_at; since = e.since })
 
 aged_tied : (now : ℕ) (k : Known) (cab : Cab) → Tied k cab → Tied k (aged now cab)
-aged_tied now k cab e = here_tied (is_due now cab) k (record cab { told = None; is_late = true }) cab
+aged_tied now k cab e = pick (Tied k) (is_due now cab) (record cab { told = None; is_late = true }) cab
     (record { does = inl refl; awaited = e.awaited; told_at = e.told_at; since = e.since }) e
 
 -- a report while nothing is awaited
@@ -69,14 +53,10 @@ abbrev hand_known : Drive → Known → Option Drive → Known
 hand_known drive k does =
     option_map_or (λ does. if is_alike does drive then k else record k { does = Some drive }) does k
 
-other_known : (b : Bool) (k l : Known) (cab : Cab) → Tied k cab → Tied l cab → Tied (if b then k else l) cab
-other_known true k l cab one two = one
-other_known false k l cab one two = two
-
 none_known : (drive : Drive) (k : Known) (cab : Cab) (does : Option Drive) → cab.told ≡ None → Tied k cab
     → Tied (hand_known drive k does) cab
 none_known drive k cab None none e = e
-none_known drive k cab (Some x) none e = other_known (is_alike x drive) k (record k { does = Some drive }) cab e
+none_known drive k cab (Some x) none e = pick (λ (k : Known). Tied k cab) (is_alike x drive) k (record k { does = Some drive }) e
     (record { does = inl none; awaited = e.awaited; told_at = e.told_at; since = e.since })
 
 hand_of : (drive : Drive) (k : Known) (cab : Cab) (told : Option Drive) → cab.told ≡ told → Tied k cab
@@ -87,7 +67,7 @@ hand_of drive k cab (Some x) is e = elim e.does [
   | inl none ↦ let denied : Some x ≡ None = sym is ∙ none in absurd (cc)
   | inr same ↦ subst (λ (does : Option Drive). Tied (hand_known drive k does)
       (if is_alike x drive then cab else handed drive cab)) (sym (same ∙ is))
-      (pick_tied (is_alike x drive) k (record k { does = Some drive }) cab (handed drive cab) e
+      (picks Tied (is_alike x drive) k (record k { does = Some drive }) cab (handed drive cab) e
       (record { does = inr refl; awaited = e.awaited; told_at = e.told_at; since = e.since }))
 ]
 
@@ -96,7 +76,7 @@ said_of : (drive : Drive) (k : Known) (cab : Cab) (x : Option Drive) → k.await
     (option_map_or (λ told. if is_same told drive then record cab { awaited = None; is_late = false } else cab) x
     (option_map_or (λ told. if is_alike told drive then cab else handed drive cab) cab.told cab))
 said_of drive k cab None k-is is e = hand_of drive k cab cab.told refl e
-said_of drive k cab (Some x) k-is is e = pick_tied (is_same x drive) (record k { awaited = None }) k
+said_of drive k cab (Some x) k-is is e = picks Tied (is_same x drive) (record k { awaited = None }) k
     (record cab { awaited = None; is_late = false }) cab
     (record { does = e.does; awaited = refl; told_at = e.told_at; since = e.since }) e
 
@@ -108,12 +88,12 @@ said_tied drive k cab e =
 
 at_tied : (here same : Bool) (drive : Drive) (k : Known) (cab : Cab) → Tied k cab
     → Tied (if here && same then known_said drive k else k) (if here then (if same then reported drive cab else cab) else cab)
-at_tied true same drive k cab e = pick_tied same (known_said drive k) k (reported drive cab) cab (said_tied drive k cab e) e
+at_tied true same drive k cab e = picks Tied same (known_said drive k) k (reported drive cab) cab (said_tied drive k cab e) e
 at_tied false same drive k cab e = e
 
 cut_tied : (here cut : Bool) (k : Known) (cab : Cab) → Tied k cab
     → Tied k (if here then (if cut then held cab else cab) else cab)
-cut_tied true cut k cab e = here_tied cut k (held cab) cab (lost k cab e) e
+cut_tied true cut k cab e = pick (Tied k) cut (held cab) cab (lost k cab e) e
 cut_tied false cut k cab e = e
 
 refused_tied : (x : Option Put) (n : ℕ) (k : Known) (cab : Cab) → Tied k cab
@@ -121,13 +101,13 @@ refused_tied : (x : Option Put) (n : ℕ) (k : Known) (cab : Cab) → Tied k cab
 refused_tied None n k cab e = e
 refused_tied (Some (put.Power on)) n k cab e = e
 refused_tied (Some (put.Silent m is_silent)) n k cab e = e
-refused_tied (Some (put.Cab m drive)) n k cab e = here_tied (n == m) k (refused drive cab) cab
+refused_tied (Some (put.Cab m drive)) n k cab e = pick (Tied k) (n == m) (refused drive cab) cab
     (record { does = e.does; awaited = e.awaited; told_at = e.told_at; since = e.since }) e
 
 pub heard_tied : (t : Table) (event : Event) (here : Bool) (n : ℕ) (k : Known) (cab : Cab) → here ≡ t.is_here
     → Tied k cab → Tied (known_heard n here event k) (cab_heard t event n cab)
 heard_tied t (event.Row m drive listed) here n k cab is e =
-    here_tied (n == m) k (with_row drive (listed || not t.is_here) cab) cab (row_tied drive (listed || not t.is_here) k cab e) e
+    pick (Tied k) (n == m) (with_row drive (listed || not t.is_here) cab) cab (row_tied drive (listed || not t.is_here) k cab e) e
 heard_tied t (event.Power on listed) here n k cab is e = e
 heard_tied t event.Greeted here n k cab is e = begun k cab e
 heard_tied t event.Gone here n k cab is e = begun k cab e
@@ -163,7 +143,7 @@ ordered_tied t None now n k cab is e = e
 ordered_tied t (Some tell.StopAll) now n k cab is e = e
 ordered_tied t (Some (tell.Power on)) now n k cab is e = e
 ordered_tied t (Some (tell.Cab m drive)) now n k cab is e =
-    pick_tied (n == m) (known_told now drive k) k (told drive t.clock cab) cab
+    picks Tied (n == m) (known_told now drive k) k (told drive t.clock cab) cab
     (subst (λ (at : ℕ). Tied (known_told now drive k) (told drive at cab)) is (told_tied drive now k cab e)) e
 
 pub asked_tied : (k : Known) (drive : Drive) (cab : Cab) → Tied k cab → Tied k (asked drive cab)

@@ -4,7 +4,7 @@ use Rattle.std.proofs.lemmas.Bool.{eqb-true}
 use Rattle.std.specs.Option.{option_map_or}
 use Rattle.std.specs.Prelude.{if◌then◌else◌, slice_get, ◌||◌}
 use Rattle.srcp_driver.specs.Cabs.{aged, forgotten, handed, held, is_due, is_kept, is_no_command, is_own, is_silent, refused, reported}
-use Rattle.srcp_driver.specs.Cabs.{still_asked, told, wanted, with_row}
+use Rattle.srcp_driver.specs.Cabs.{told, wanted, with_answer, with_command, with_row}
 use Rattle.srcp_driver.specs.Drives.{drives, is_alike, is_same, is_value}
 use Rattle.srcp_driver.specs.Laws.{may_command}
 use Rattle.srcp_driver.specs.Powers.{is_cut}
@@ -103,15 +103,7 @@ row_unsure false told awaited e = tt
 
 -- a row that is no command, or rests
 row_of : (drive : Drive) (own denied : Bool) (cab : Cab) → (own ≡ false → IsRest (if denied then None else Some drive)) → Waits cab
-    → Waits (if own then record cab { row = drive; asked = None; is_refused = false }
-    else record cab {
-      row = drive;
-      command = if denied then None else Some drive;
-      is_held = denied;
-      asked = still_asked cab.asked drive;
-      is_refused = false;
-      told = if drives drive then cab.told else None;
-    })
+    → Waits (if own then with_answer drive cab else with_command drive denied cab)
 row_of drive true denied cab rests e = record { rests = e.rests; unsure = e.unsure }
 row_of drive false denied cab rests e =
     record { rests = rests refl; unsure = row_unsure (drives drive) cab.told cab.awaited e.unsure }

@@ -52,7 +52,7 @@ SettingsArePaced = (count : ℕ) (kind : Kind) (past : List Turn) (turn : Turn)
     ≡ true
 
 -- once nothing is left to tell though an order may go, the station was told what is commanded, or has not confirmed
--- what it was told before
+-- what it was told before; by the board, since what events alone say of a switch would be Switches.antt once more
 abbrev pub SettingsAreTold : Type 0
 SettingsAreTold = (count : ℕ) (kind : Kind) (past : List Turn) (event : BoardEvent) (n : ℕ) (s : Switch) (on : Bool)
     → may_go (board_hears count kind past event) ≡ true → next_setting (board_hears count kind past event) ≡ None

@@ -138,7 +138,7 @@ nothing_noted = record {
   told = None;
 }
 
--- the same, but at rest
+-- the same, but at rest. What is noted has definitions of its own, so that a law refuses an edit of the table's
 abbrev pub at_rest : Drive → Drive
 at_rest drive = if drives drive then record drive { speed = speed.Stand } else drive
 
@@ -156,30 +156,38 @@ abbrev pub is_denied : Drive → Bool → Noted → Bool
 is_denied drive old noted =
     drives drive && (old || (noted.is_held && (not noted.is_refused || is_same noted.row drive)))
 
+abbrev pub noted_answer : Drive → Noted → Noted
+noted_answer drive noted = record noted { row = drive; asked = None; is_refused = false }
+
+abbrev pub noted_command : Drive → Bool → Noted → Noted
+noted_command drive denied noted = record noted {
+  row = drive;
+  command = if denied then None else Some drive;
+  is_held = denied;
+  asked = if is_value noted.asked drive then None else noted.asked;
+  is_refused = false;
+  told = if drives drive then noted.told else None;
+}
+
 abbrev pub noted_row : Drive → Bool → Noted → Noted
-noted_row drive old noted = if is_answer drive noted
-    then record noted { row = drive; asked = None; is_refused = false }
-    else record noted {
-      row = drive;
-      command = if is_denied drive old noted then None else Some drive;
-      is_held = is_denied drive old noted;
-      asked = if is_value noted.asked drive then None else noted.asked;
-      is_refused = false;
-      told = if drives drive then noted.told else None;
-    }
+noted_row drive old noted =
+    if is_answer drive noted then noted_answer drive noted else noted_command drive (is_denied drive old noted) noted
 
 -- something is lost: nothing is commanded any more
 abbrev pub noted_lost : Noted → Noted
 noted_lost noted =
     record noted { command = None; is_held = noted.is_held || drives noted.row; is_refused = false; told = None }
 
+-- a hand throttle commands this
+abbrev pub noted_hand : Drive → Noted → Noted
+noted_hand drive noted = record noted { command = Some drive; is_refused = false; told = Some drive }
+
 -- a report counts once the station has reported what it was told, if it says something else
 abbrev pub noted_said : Known → Drive → Noted → Noted
-noted_said known drive noted = if is_some known.awaited then noted else option_map_or
-    (λ told. if is_alike told drive
+noted_said known drive noted =
+    if is_some known.awaited
     then noted
-    else record noted { command = Some drive; is_refused = false; told = Some drive })
-    noted.told noted
+    else option_map_or (λ told. if is_alike told drive then noted else noted_hand drive noted) noted.told noted
 
 -- the registry refuses what it was asked
 abbrev pub noted_refused : ℕ → Option Put → Noted → Noted
