@@ -223,6 +223,8 @@ class Trial:
         with suppress(Stopped):
             for one in breaks:
                 verdict = self.judge(one)
+                if verdict.outcome is Outcome.PASSED:  # a busy machine may have hidden it
+                    verdict = self.judge(one)
                 if verdict.outcome in (Outcome.SEEN, Outcome.FAILED):
                     is_sound = self.is_sound(one) if is_sound is None else is_sound
                     if not is_sound:
