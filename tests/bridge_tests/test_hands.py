@@ -103,6 +103,10 @@ class HandsBeforeRows(unittest.IsolatedAsyncioTestCase):
         self.assertEqual(await self.told(between=lambda: self.tells("100 INFO 1 POWER OFF stop all")), (0, 1))
         self.assertEqual(self.asked, [self.GET, self.INIT])
 
+    async def test_what_is_made_stands_after_an_overload_behind_the_init(self):
+        self.assertEqual(await self.told(between=lambda: self.bus.lose("overload")), (0, 1))
+        self.assertEqual(self.asked, [self.GET, self.INIT])
+
     async def test_what_is_made_stands_after_a_loss_before_the_init(self):
         self.assertEqual(await self.told(lambda: self.tells("100 INFO 1 POWER OFF stop all")), (0, 1))
         self.assertEqual(self.asked, [self.GET, self.INIT])
