@@ -2,6 +2,7 @@
 import asyncio
 import signal
 import time
+import types
 import unittest
 from unittest import mock
 
@@ -268,6 +269,14 @@ class OfDccEx(unittest.IsolatedAsyncioTestCase):
         self.station.tell_again()
         told.append(self.station.command(self.cab, (61, 1)))
         self.assertEqual(told, [b"<t 3 60 1>\n<t 3>\n", b"<t 3 61 1>\n", b"<t 3 61 1>\n<t 3>\n"])
+
+    async def test_it_is_told_twice_to_stop_all_as_it_begins(self):
+        """The line may lose one, and no driver would see what drives on that the registry does not have."""
+        told = []
+        self.station.line = types.SimpleNamespace(write=told.append)
+        with mock.patch("srcp_bridges.stations.station.say"):
+            self.station.take(b"<iDCC-EX V-5.4.0>")
+        self.assertEqual(told, [b"<!>\n", b"<Q>\n", b"<!>\n"])
 
 
 class Elsewhere(StationCase):

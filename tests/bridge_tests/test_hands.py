@@ -103,9 +103,21 @@ class HandsBeforeRows(unittest.IsolatedAsyncioTestCase):
         self.assertEqual(await self.told(between=lambda: self.tells("100 INFO 1 POWER OFF stop all")), (0, 1))
         self.assertEqual(self.asked, [self.GET, self.INIT])
 
+    async def test_what_is_made_stands_after_an_overload_behind_the_init(self):
+        self.assertEqual(await self.told(between=lambda: self.bus.lose("overload")), (0, 1))
+        self.assertEqual(self.asked, [self.GET, self.INIT])
+
     async def test_what_is_made_stands_after_a_loss_before_the_init(self):
         self.assertEqual(await self.told(lambda: self.tells("100 INFO 1 POWER OFF stop all")), (0, 1))
         self.assertEqual(self.asked, [self.GET, self.INIT])
+
+    async def test_what_a_hand_drives_stands_once_this_program_has_slept(self):
+        """Also as the power comes again."""
+        await self.told()
+        self.tells("100 INFO 1 GL 77 1 40 126" + 29 * " 0")
+        self.assertIsNone(self.waits())
+        self.tells("100 INFO 1 POWER OFF no driver", "100 INFO 1 POWER ON")
+        self.assertEqual(self.waits(), (0, 1))
 
     async def test_two_reports_at_once_make_one(self):
         """The second comes while the server makes it, and is the one that counts."""

@@ -289,6 +289,29 @@ class OfStopAll(unittest.IsolatedAsyncioTestCase):
             self.assertEqual(asked[0], f"SET 1 POWER {power} stop all")
             self.assertIn("SET 1 GL 3 2 0 28", asked)
 
+    async def test_a_train_whose_speed_the_panel_tells_late_is_stopped(self):
+        """Another session had it drive just before. The panel is late, and tells that ahead of the STOP ALL."""
+        from srcp_bridges.limits import SETTLED
+        from srcp_bridges.srcp.rows import Drive, Power
+        from srcp_bridges.srcp.stop import Stops, stop_all
+        rows, asked, loop = {(1, "POWER", 0, "does"): Power(0, True, "")}, [], asyncio.get_running_loop()
+
+        def tells():
+            rows[1, "GL", 3, "does"] = Drive(0, 1, 9, 28, ())
+            mirror.stops.stopped_all(1)
+
+        async def ask(command):
+            asked.append(command)
+            if command == "SET 1 POWER ON stop all":
+                loop.call_later(3 * SETTLED, tells)
+            return Drive(0, 1, 9, 28, ())
+
+        session = types.SimpleNamespace(ask=ask, ended=loop.create_future(), id=1)
+        mirror = types.SimpleNamespace(stops=Stops(), session=session, here=True, rows=rows, driven=set,
+                                       way_by=lambda *row: asyncio.sleep(0, 1))
+        self.assertEqual(await stop_all(mirror), [])
+        self.assertIn("SET 1 GL 3 2 0 28", asked)
+
     async def test_who_commands_a_train_anew_as_its_rest_is_refused_drives_it(self):
         """Another has it locked, and the reply that refuses the driver comes behind the holder's new command."""
         from srcp_bridges.srcp.replies import Refused
