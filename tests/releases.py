@@ -291,7 +291,7 @@ def lay_test(top: Path) -> None:
     repository has a file `bad`."""
     shutil.copy(TOP / "test", top)
     called = "import os, sys\nopen('log', 'a').write(' '.join(sys.argv) + '\\n')\nsys.exit(os.path.exists('bad'))\n"
-    for name in ("tests/run_cases.py", "tests/run_out_of_memory.py", "tools/refused.py", "tools/broken.py"):
+    for name in ("tests/run_cases.py", "tests/run_out_of_memory.py", "tools/refused.py"):
         (top / name).parent.mkdir(exist_ok=True)
         (top / name).write_text(called)
 
@@ -327,7 +327,7 @@ def test_without_the_kit(program: str) -> str | None:
 
 def test_with_the_kit(program: str) -> str | None:
     """./test runs what it built, and calls neither ./run nor what is released. With --all it tries the other wrong
-    bodies too, and the breaks of bridges/. It ends where something fails. Any other word is refused."""
+    bodies too. It ends where something fails. Any other word is refused."""
     with repository_of_one_crate(program) as (top, environment):
         lay_test(top)
         (top / "tools" / "python3").symlink_to(sys.executable)
@@ -338,8 +338,7 @@ def test_with_the_kit(program: str) -> str | None:
         (top / "bad").touch()
         bad = outcome_of_test(top, environment, "--all")
     calls = ["rt ci", "tests/run_out_of_memory.py", "tests/run_cases.py crates/srcp_server/out/srcp_server"]
-    with_all = [*calls, "tools/refused.py --minutes 45",
-                "tools/broken.py --minutes 5 crates/srcp_server/out/srcp_server"]
+    with_all = [*calls, "tools/refused.py --minutes 45"]
     if (plain[::2], every[::2], bad[::2]) != ((0, calls), (0, with_all), (1, with_all[:2])):
         return f"got {plain}, with --all {every}, with what fails {bad}"
     return None if wrong == (2, "usage: ./test [--all]\n", []) else f"another word: {wrong}"
