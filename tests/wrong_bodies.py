@@ -15,7 +15,7 @@ from serving import SECONDS
 
 TOP = Path(__file__).resolve().parent.parent
 sys.path.insert(0, str(TOP / "tools"))
-from edits import FUNCTION, Fault, Function, Kind, apply, function_at, parse_edit  # noqa: E402
+from edits import FUNCTION, Fault, Function, Kind, apply, function_at, parse_edit, read_edits  # noqa: E402
 from refused import lines_of, texts_of  # noqa: E402
 
 # What makes the calls of the machine.
@@ -297,6 +297,18 @@ def each_public_function_has_a_wrong_body(_: str) -> str | None:
     return f"no edit of {', '.join(missing)}" if missing else None
 
 
+def each_wrong_body_applies(_: str) -> str | None:
+    """The gate has minutes for those that changed, and so would try such a fault late, or not at all."""
+    faults = []
+    for crate in lines_of(TOP):
+        texts = texts_of(TOP / "crates" / crate)
+        for edit in read_edits(TOP / "crates" / crate):
+            made = edit[1] if isinstance(edit, tuple) else apply(crate, edit, texts)
+            if isinstance(made, Fault):
+                faults.append(f"{crate}/{edit[0] if isinstance(edit, tuple) else edit.name}: {made.why}")
+    return "; ".join(faults) or None
+
+
 WRONG_BODY_CASES = (wrong_bodies_are_tried_together, wrong_bodies_of_one_function_are_tried_in_turn,
                     wrong_body_that_applies_nowhere_fails, wrong_body_that_is_proved_fails,
                     wrong_body_that_another_function_shows_is_tried_alone, wrong_body_that_does_not_compile_fails,
@@ -304,4 +316,4 @@ WRONG_BODY_CASES = (wrong_bodies_are_tried_together, wrong_bodies_of_one_functio
                     wrong_body_of_an_unknown_form_fails, law_has_to_refuse_its_edits,
                     nothing_is_refused_of_a_crate_that_is_not_proved,
                     wrong_body_that_is_not_tried_in_time_is_told, runner_that_is_ended_leaves_nothing,
-                    each_public_function_has_a_wrong_body)
+                    each_public_function_has_a_wrong_body, each_wrong_body_applies)
