@@ -134,8 +134,8 @@ class Readme(unittest.TestCase):
         """The units start programs that are there, and are as shut in as that of the server. Links lead to files."""
         unit = (PROGRAMS / "units" / "srcp_bridge@.service").read_text()
         own = (common.TOP / "examples" / "srcp_server.service").read_text()
-        differ = {"RestrictAddressFamilies", "IPAddressAllow", "LimitNOFILE", "MemoryMax", "ExecStart", "ExecStartPre",
-                  "ExecStartPost", "ExecReload"}
+        differ = {"RestrictAddressFamilies", "IPAddressAllow", "LimitNOFILE", "MemoryMax", "Type", "ExecStart",
+                  "ExecStartPre", "ExecStartPost", "ExecReload"}
         hard = {line for line in own.partition("[Service]")[2].splitlines() if "=" in line and not line.startswith("#")}
         hard = {line for line in hard if line.partition("=")[0] not in differ}
         self.assertEqual(hard - set(unit.splitlines()), set())
