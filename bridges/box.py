@@ -13,7 +13,7 @@ import contextlib
 from collections.abc import Awaitable, Callable, Coroutine
 from typing import Any
 
-from srcp_bridges.limits import ANSWER, PORTS_APART, PULSE, SOON, STOPS, TURNOUT_PACE
+from srcp_bridges.limits import ANSWER, PORTS_APART, PULSE, SECOND, SOON, STOPS, TURNOUT_PACE
 from srcp_bridges.plan.interlock import (Accessory, Interlock, RoutePlan, Sensor, locked, reported, server_program,
                                          thrown, thrown_by_hand)
 from srcp_bridges.plan.occupancy import Occupancy
@@ -47,6 +47,7 @@ class Box:
 
     async def run(self) -> None:
         following = asyncio.create_task(self.mirror.run())
+        self.begin(self.tell_seconds())
         while not following.done():
             session = await self.joined.get()
             with contextlib.suppress(ConnectionError):  # the mirror tells of it
@@ -178,6 +179,13 @@ class Box:
                     self.look_at_trains(sensor, self.occupancy.known(sensor))
         for route in self.set:
             self.look_at_blocks(route)
+
+    async def tell_seconds(self) -> None:
+        """Tells each second, by which delays run: none is told before it has passed."""
+        while True:
+            await asyncio.sleep(SECOND)
+            if self.interlock:
+                self.interlock.tell_second()
 
     # ---- what it does by itself
 

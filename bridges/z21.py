@@ -51,6 +51,8 @@ class Z21(Confirmed):
         super().__init__(asked)
         self.where = network_place(asked.station, "neither HOST nor HOST:PORT", PORT)
         self.asked_code = False
+        self.is_known = False  # the station has said that it tells this program of all that FLAGS name
+        self.is_doubted = False  # it has said once since that it does not
         self.thrown = Thrown(self.bus)
         self.pulses: dict[int, int] = {}  # turnouts of which an output is to go off, and that output
         self.on: set[int] = set()  # turnouts of which an output is on: what is reported of one says that it is off
@@ -59,7 +61,7 @@ class Z21(Confirmed):
         self.drives: defaultdict[Part, deque] = defaultdict(deque)  # what each cab that drives was told, and when
 
     async def connect(self) -> Datagrams:
-        self.left = []
+        self.left, self.is_known, self.is_doubted = [], False, False
         return await Datagrams.open(self.where)
 
     # ---- what it is told
@@ -99,6 +101,9 @@ class Z21(Confirmed):
     def look(self) -> None:
         """Has outputs go off, and asks how one locomotive after the other drives, and one turnout after the other lies:
         a hand may have driven it, or thrown it."""
+        is_new = not self.is_known and asyncio.get_running_loop().time() < self.began + STRAY  # it may never say so
+        if is_new or self.is_doubted:
+            self.line.write(self.HELLO * is_new + dataset(datasets.GET_FLAGS))
         self.thrown.look()
         self.leave_stands()
         self.looks += 1
@@ -110,6 +115,9 @@ class Z21(Confirmed):
         if self.bus.silent and not self.asked_code:
             self.asked_code = True
             self.line.write(dataset(datasets.GET_CODE))
+        others = [address for address, (speed, *_) in self.track.others.items() if speed > 0 and self.bus.stopping]
+        if others:  # it may stand, and the report of that be lost: then a STOP ALL would wait for its answer for ever
+            self.line.write(datasets.ask_locomotive(others[self.looks % len(others)]))
         if known := sorted(self.track.known):
             self.line.write(datasets.ask_locomotive(known[self.looks % len(known)]))
 
@@ -138,9 +146,9 @@ class Z21(Confirmed):
             if header == datasets.SERIAL_NUMBER and not self.ready.is_set():
                 self.greeted(f"Z21, serial number {int.from_bytes(data, 'little')}")
             elif header == datasets.GET_FLAGS and data != FLAGS and self.ready.is_set():
-                self.line.write(self.HELLO)  # it has begun anew, and knows of nobody
-                self.ready.clear()
-                self.greeted("Z21, has forgotten this program")
+                self.tells_of_less()
+            elif header == datasets.GET_FLAGS and data == FLAGS:
+                self.is_known, self.is_doubted = True, False
             elif header == datasets.GET_CODE and data[:1] == datasets.LOCKED:
                 say("station: a z21start that is locked: it drives by the network once its code is entered")
             elif header == datasets.RMBUS and len(data) == 11 and data[0] < 2:
@@ -148,6 +156,19 @@ class Z21(Confirmed):
                     self.sense(number, value)
             elif header == datasets.XBUS and self.ready.is_set():
                 self.take_xbus(data[:-1])
+
+    def tells_of_less(self) -> None:
+        """The station does not tell this program of all that it asked for. If it did, it has begun anew, and knows of
+        nobody: it is asked twice, since an answer may come late. If not, it is greeted until it has heard."""
+        if not self.is_known:
+            return self.line.write(self.HELLO)
+        if not self.is_doubted:
+            self.is_doubted = True
+            self.line.write(dataset(datasets.GET_FLAGS))
+            return
+        self.is_known = self.is_doubted = False
+        self.ready.clear()
+        self.greeted("Z21, has forgotten this program")
 
     def take_xbus(self, data: bytes) -> None:
         if data in (b"\x61\x00", b"\x61\x01"):

@@ -158,8 +158,8 @@ def client_module_of_javascript(program: str) -> str | None:
 
 def refusals_of_the_client_modules(_: str) -> str | None:
     """Both have each refusal that the protocol's page has, in the same words."""
-    page = (TOP / "docs" / "protocol.md").read_text().partition("\n### Replies\n")[2].partition("\n\n1. ")[0]
-    codes = set(re.findall(r"^\| `(\d+) ERROR", page, re.M))
+    page = (TOP / "docs" / "protocol.md").read_text().partition("\n### Replies\n")[2].partition("\n## ")[0]
+    codes = set(re.findall(r"^\|[^|]*`(\d+) ERROR", page, re.M))
     told = [dict(re.findall(r'\b"?(\d{3})"?: "([^"]+)"', (EXAMPLES / f"srcp_client.{end}").read_text()))
             for end in ("py", "js")]
     got = told[0] == told[1], set(told[0]) == codes, len(codes) > 10

@@ -17,6 +17,7 @@ RESET = b"\1\0\0\0\0\0\0\0"
 
 
 def listens_on_the_loopback_alone(program):
+    """It fails for a door that listens at 0.0.0.0, and for one that gives session ids from 8."""
     with served(program) as (port, _):
         listening = [line.split()[1] for line in Path("/proc/net/tcp").read_text().splitlines()[1:]
                      if line.split()[3] == "0A" and line.split()[1].endswith(f":{port:04X}")]
@@ -27,7 +28,8 @@ def listens_on_the_loopback_alone(program):
 
 
 def stamps_are_the_time(program):
-    """This holds after a rest too: nothing fell due, so no time is caught up in steps."""
+    """This holds after a rest too: nothing fell due, so no time is caught up in steps. It fails for a door that takes
+    seconds of its clocks, or of the wall clock alone, for milliseconds."""
     with served(program) as (port, _):
         throttle = Client(port, "COMMAND")
         for pause in (0, 0.5, 3):
@@ -41,7 +43,8 @@ def stamps_are_the_time(program):
 
 def server_that_rests_is_not_woken(program):
     """Nothing happens, though a lock ends in an hour: the server sleeps until a client asks for something. It takes no
-    processor: a server that does not wait at all goes to sleep no more often."""
+    processor: a server that does not wait at all goes to sleep no more often. It fails for a door that wakes every 8
+    ms."""
     with served(program) as (port, server):
         throttle, panel = Client(port, "COMMAND"), Client(port, "INFO")
         throttle.asks("INIT 1 GL 3 N 1 28 5", "SET 1 LOCK GL 3 3600")
@@ -68,6 +71,7 @@ def sleeps(server):
 
 
 def pulse_ends_in_time(program):
+    """It fails for a door that waits 800 ms, and for one that waits without regard to what falls due."""
     with served(program) as (port, _):
         throttle, panel = Client(port, "COMMAND"), Client(port, "INFO")
         throttle.asks("INIT 1 GA 5 N")
@@ -80,7 +84,8 @@ def pulse_ends_in_time(program):
 
 
 def end_of_a_session_is_answered(program):
-    """The reply comes before the end of the stream, also if commands follow that are not answered."""
+    """The reply comes before the end of the stream, also if commands follow that are not answered. It fails for a door
+    that hands nothing over at the close."""
     with served(program) as (port, _):
         for rest in (0, 100, 10_000):
             leaver = Client(port, "COMMAND")
@@ -117,7 +122,8 @@ def slow_reader_gets_every_byte(program):
 
 
 def peers_that_reset_leave_their_places(program):
-    """This holds too if the server finds that out by a write, since each second peer has sent commands."""
+    """This holds too if the server finds that out by a write, since each second peer has sent commands. It fails for a
+    door that takes a failed write for one that takes nothing now."""
     with served(program) as (port, _):
         for count in range(160):
             peer = placed(port)
@@ -147,7 +153,8 @@ def small_socket(port):
 
 
 def half_closed_panel_is_served(program):
-    """A panel that sends no more, and reads slowly, is listed every row, and then the stream ends."""
+    """A panel that sends no more, and reads slowly, is listed every row, and then the stream ends. It fails for a door
+    that drops the rest of a short write, and for one that reports an end at once."""
     with served(program) as (port, _):
         throttle = Client(port, "COMMAND")
         throttle.asks_many([f"INIT 1 GL {address} N 1 28 5" for address in range(1, ROWS + 1)])
@@ -206,7 +213,8 @@ def closed_panels(program, count, seconds):
 
 
 def panels_that_read_are_kept(program):
-    """However many sessions send without end, no panel that reads is closed."""
+    """However many sessions send without end, no panel that reads is closed. It fails for a door that lets all lines
+    through in a turn."""
     closed = closed_panels(program, PANELS, 3)
     return f"{closed} of {PANELS} panels were closed" if closed else None
 
@@ -232,7 +240,8 @@ def panel_that_leaves(port):
 
 
 def panels_that_leave_in_midst_of_changes(program):
-    """They half-close and then close. Each slot is free again, though each turn has output for its panel."""
+    """They half-close and then close. Each slot is free again, though each turn has output for its panel. It fails for
+    a door that takes a failed write for one that took all."""
     with served(program) as (port, _):
         throttle = Client(port, "COMMAND")
         threads = [threading.Thread(target=changes_without_end, args=(throttle,)),
@@ -254,7 +263,8 @@ def panels_that_leave_in_midst_of_changes(program):
 
 def peers_that_were_let_go_and_stay(program):
     """Sessions that end themselves, and whose clients close nothing: the server keeps 64 of them at most, and none for
-    longer than 10 seconds."""
+    longer than 10 seconds. It fails for a door that keeps all that linger, and for one that keeps all that linger for
+    ever, and for one that keeps nobody aside whose input is open."""
     with served(program) as (port, server):
         def descriptors():
             return len(os.listdir(f"/proc/{server.pid}/fd"))

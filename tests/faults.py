@@ -157,8 +157,9 @@ def work_without_rest(server, seconds):
 
 @asks_the_system
 def calls_that_are_interrupted(program):
-    """Of the reads and the writes of sockets each second one is interrupted: all is answered, and a panel is told
-    all."""
+    """Of the reads and the writes of sockets each second one is interrupted: all is answered, and a panel is told all.
+    It fails for a door that takes an interrupted read or write for a fault, and for one that takes such a one for a
+    socket with nothing now."""
     calls: Counter[int] = Counter()
 
     def fault_of(call):
@@ -180,7 +181,8 @@ def calls_that_are_interrupted(program):
 
 @asks_the_system
 def wait_that_fails(program):
-    """If the system refuses to wait, or ends each wait at once, the server rests and tries again."""
+    """If the system refuses to wait, or ends each wait at once, the server rests and tries again. It fails for a door
+    that does not rest if the system refuses to wait, and for one that goes on after a wait that is interrupted."""
     faults = (waits_in_vain(program, refusal) for refusal in (errno.EBADF, errno.EINTR))
     return next((fault for fault in faults if fault), None)
 
@@ -211,7 +213,9 @@ def waits_in_vain(program, refusal):
 
 
 def accept_that_is_refused(program):
-    """If no descriptor is left, open peers are served, and a pending one is let in once there is one."""
+    """If no descriptor is left, open peers are served, and a pending one is let in once there is one. It fails for a
+    door that does not rest after an accept that is refused, and for one that accepts nobody any more after such an
+    accept."""
     with served(program) as (port, server):
         throttle = Client(port, "COMMAND")
         limits = resource.prlimit(server.pid, resource.RLIMIT_NOFILE)
@@ -252,7 +256,8 @@ def clients_until_one_is_not_greeted(port):
 
 def connection_without_memory(program):
     """If memory is refused for a connection, its peer is closed at once, open peers are served, the server rests, and
-    who comes once there is some is greeted. That is so at whichever step of an accept the memory runs out."""
+    who comes once there is some is greeted. That is so at whichever step of an accept the memory runs out. It fails for
+    a door that lets a peer wait for whom memory is refused."""
     faults = (fault_without_memory(program, left) for left in LEFT)
     return next((fault for fault in faults if fault), None)
 

@@ -23,7 +23,8 @@ NUMBERS = (("At most {:,} clients are connected", "MOST_CONNECTIONS", lambda mos
            ("for which more than {:,} changes wait", "MOST_WAITING", lambda most: most),
            ("More than {:,} bytes", "INPUT_LIMIT", lambda most: most),
            ("or {:,} of a configuration", "CONFIG_LIMIT", lambda most: most),
-           ("for {:,} seconds after its end", "LINGER", lambda milliseconds: milliseconds // 1000))
+           ("for {:,} seconds after its end", "LINGER", lambda milliseconds: milliseconds // 1000),
+           ("rests for {:,} ms if the system ends a wait early", "FAILED_WAIT", lambda milliseconds: milliseconds))
 NUMERALS = ("no", "one", "two", "three", "four", "five", "six", "seven", "eight", "nine", "ten", "eleven", "twelve")
 HOUR = 3600
 MOST_LINES = 170

@@ -3,19 +3,14 @@ import re
 import subprocess
 import tempfile
 import tomllib
+from itertools import zip_longest
 from pathlib import Path
 
-from serving import expected_text
+from serving import expected_text, layout_bus
 
 SECONDS = 300
-DOCUMENT = b"""port = 4303
-[[bus]]
-number = 1
-groups = ["POWER", "GL", "GA", "FB"]
-gl_max = 10239
-ga_max = 2044
-fb_ports = 2
-"""
+PIECE = 256  # bytes that a connection takes at once
+DOCUMENT = ("port = 4303\n" + layout_bus(1, "POWER GL GA FB", gl_max=10239, ga_max=2044, fb_ports=2)).encode()
 STORED_RUN = Path(__file__).resolve().parent / "cases" / "stored-run"
 LISTING = Path(__file__).resolve().parent / "cases" / "mirror-of-a-listing" / "stdin"
 ROUTE = Path(__file__).resolve().parent / "cases" / "interlock-route-set-and-given-back"
@@ -24,6 +19,19 @@ ROUTE = Path(__file__).resolve().parent / "cases" / "interlock-route-set-and-giv
 def outcome(program, words, given=b""):
     done = subprocess.run([program, *words], input=given, capture_output=True, timeout=SECONDS)
     return done.returncode, done.stderr, done.stdout
+
+
+def parse_record(out):
+    """The output of replay: {number: {"sent", "word"}} and the refused events."""
+    connections, at = {}, 0
+    header = re.compile(rb"connection (\d+) (\d+) (\w+)\n")
+    while match := header.match(out, at):
+        sent = out[match.end():match.end() + int(match[2])]
+        connections[match[1].decode()] = {"sent": sent.decode("latin-1"), "word": match[3].decode()}
+        at = match.end() + len(sent) + (1 if sent and not sent.endswith(b"\n") else 0)
+    before_rows = re.split(rb"^rows \d+\n", out[at:], maxsplit=1, flags=re.M)[0]
+    refused = [line.removeprefix(b"refused ").decode() for line in before_rows.splitlines()]
+    return connections, refused
 
 
 def unlike(what, got, want):
@@ -147,6 +155,62 @@ def script_of_300_000_lines(program):
     return unlike("replay", (status, complaint, told), (2, b"srcp_server: script line 300001: wrong number\n", b""))
 
 
+def pieces_of(lines):
+    """Yields the lines, joined to pieces that a connection takes."""
+    piece = b""
+    for line in lines:
+        if len(piece) + len(line) > PIECE:
+            yield piece
+            piece = b""
+        piece += line
+    yield piece
+
+
+def lines_as_long_as_they_may_be_and_longer(program):
+    """The CR of a line counts. Behind a line that is too long the next is read."""
+    unknown, too_long = b"0.000 410 ERROR unknown command\n", b"0.000 418 ERROR list too long\n"
+    for count, end, reply in ((1000, b"", unknown), (999, b"\\r", unknown), (1001, b"", too_long),
+                              (1000, b"\\r", too_long), (5000, b"", too_long)):
+        pieces = pieces_of([b"x"] * count)
+        script = b"open\nroom 1 1000\n" + b"".join(b"bytes 1 %s\n" % piece for piece in pieces)
+        given = script + b"bytes 1 %s\\nGO\\n\nroom 1 1000\n" % end
+        sent = expected_text(b"{WELCOME}\n") + reply + b"0.000 200 OK GO 1\n"
+        want = 0, b"", sent.decode()
+        status, complaint, told = outcome(program, [], given)
+        if fault := unlike(f"{count} bytes", (status, complaint, parse_record(told)[0]["1"]["sent"]), want):
+            return fault
+    return None
+
+
+def every_device_made_and_locked(program):
+    """A session makes each locomotive and each accessory of the largest bus, and locks it. None is refused its memory,
+    and each has its rows."""
+    gls, gas = range(1, 10_240), range(1, 2_045)
+    lines = [*(b"INIT 1 GL %d N 1 28 0\n" % gl for gl in gls), *(b"INIT 1 GA %d N\n" % ga for ga in gas),
+             *(b"SET 1 LOCK GL %d 0\n" % gl for gl in gls), *(b"SET 1 LOCK GA %d 0\n" % ga for ga in gas)]
+    script = b"open\nroom 1 45\nbytes 1 GO\\n\nroom 1 18\n" + b"".join(
+        b"bytes 1 %s\nroom 1 10000\n" % piece.replace(b"\n", b"\\n") for piece in pieces_of(lines))
+    sent = [expected_text(b"{WELCOME}\n"), b"0.000 200 OK GO 1\n", *[b"0.000 200 OK\n"] * len(lines)]
+    rows = [b"0.000 101 INFO 0 SESSION 1 COMMAND\n", b"0.000 100 INFO 1 POWER OFF\n"]
+    for gl in gls:
+        rows += [b"0.000 101 INFO 1 GL %d N 1 28 0\n" % gl, b"0.000 100 INFO 1 GL %d 1 0 0\n" % gl]
+    for ga in gas:
+        rows += [b"0.000 101 INFO 1 GA %d N\n" % ga, *(b"0.000 100 INFO 1 GA %d %d 0\n" % (ga, at) for at in (0, 1))]
+    rows += [b"0.000 100 INFO 1 FB %d 0\n" % port for port in (1, 2)]
+    rows += [*(b"0.000 100 INFO 1 LOCK GL %d 0 1\n" % gl for gl in gls),
+             *(b"0.000 100 INFO 1 LOCK GA %d 0 1\n" % ga for ga in gas)]
+    head = b"connection 1 %d open\n" % len(b"".join(sent))
+    want = [head, *sent, b"rows %d\n" % len(rows), *rows]
+    with tempfile.NamedTemporaryFile() as config:
+        config.write(DOCUMENT)
+        config.flush()
+        status, complaint, told = outcome(program, ["replay", "--config", config.name], script)
+    pairs = zip_longest(told.splitlines(keepends=True), want)
+    unlike_line = next((unlike(f"line {at}", *pair) for at, pair in enumerate(pairs, 1) if pair[0] != pair[1]), None)
+    return unlike("replay", (status, complaint), (0, b"")) or unlike_line
+
+
 INPUT_CASES = (document_cut_after_each_byte, script_cut_after_each_byte, listing_cut_after_each_byte,
                routes_cut_after_each_byte, layout_of_250_buses, mirror_of_70_000_rows, run_of_200_000_events,
-               script_of_300_000_lines)
+               script_of_300_000_lines, lines_as_long_as_they_may_be_and_longer,
+               every_device_made_and_locked)

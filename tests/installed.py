@@ -50,7 +50,8 @@ def commands_of_the_package(program):
 
 @with_packaging_tools
 def programs_of_the_package_tell_its_version(program):
-    """All beside the server, those of bridges/ and of examples/. In a clone they tell the newest release."""
+    """All beside the server, those of bridges/ and of examples/, as SECURITY.md says. In a clone they tell the newest
+    release."""
     version = re.match(r"srcp-server \(([\d.]+-\d+)\) ", (TOP / "packaging" / "changelog").read_text())[1]
     programs = [file for part in ("bridges", "examples") for file in (TOP / part).glob("*.py")
                 if os.access(file, os.X_OK)]
@@ -61,7 +62,9 @@ def programs_of_the_package_tell_its_version(program):
                                       timeout=SECONDS, env=os.environ | {"PYTHONDONTWRITEBYTECODE": "1"}).stdout
                 if told != f"{file.name} {version}, for SRCP 0.8.4\n":
                     return f"{file}: {told!r}"
-    return None if programs else "no programs"
+    security = " ".join((TOP / "SECURITY.md").read_text().split())
+    is_told = "`srcp_server --version` tells which release you have, as each program does" in security
+    return None if programs and is_told else f"{len(programs)} programs; SECURITY.md says so: {is_told}"
 
 
 @with_packaging_tools
@@ -88,7 +91,8 @@ def values(text, key):
 @with_packaging_tools
 def units_of_the_package(program):
     """All are started again, however they end, once the time is known. Each says who it is, and has a folder for what
-    status.py reads. A second station has what a first one has, and `keep` its file."""
+    status.py reads. A second station has what a first one has, and `keep` its file. The start of the server waits until
+    its process is the program: before that, its user may not ask whether the process is there."""
     with installed(program) as root:
         files = [file for file in (root / UNITS).rglob("*.*") if file.is_file()]
         texts = {str(file.relative_to(root / UNITS)): file.read_text() for file in files}
@@ -98,10 +102,25 @@ def units_of_the_package(program):
         if values(text, "Restart") != ["always"] or "time-sync.target" not in values(text, "After")[0].split():
             return f"{values(text, 'Restart')}, {values(text, 'After')}"
     keep = texts["srcp_bridge@keep.service.d/srcp-server.conf"]
-    got = (values(bridge, "SyslogIdentifier"), values(bridge, "RuntimeDirectory"), values(bridge, "Environment"),
-           first == second, values(first, "Environment"), values(keep, "Environment"))
-    want = ["srcp_bridge@%i"], ["srcp_bridge_%i"], ["BRIDGE=%i"], True, ["BRIDGE=dcc_ex"], ["WORDS=layout.srcp"]
+    got = (values(server, "Type"), values(bridge, "SyslogIdentifier"), values(bridge, "RuntimeDirectory"),
+           values(bridge, "Environment"), first == second, values(first, "Environment"), values(keep, "Environment"))
+    want = (["exec"], ["srcp_bridge@%i"], ["srcp_bridge_%i"], ["BRIDGE=%i"], True, ["BRIDGE=dcc_ex"],
+            ["WORDS=layout.srcp"])
     return None if got == want else f"got {got}"
+
+
+@with_packaging_tools
+def units_that_the_pages_enable(program: str) -> str | None:
+    """Each unit that the front page and the page of installing name has its program in the package. One line each of
+    the latter starts what the front page says."""
+    readme, page = [" ".join((TOP / name).read_text().split()) for name in ("README.md", "docs/install.md")]
+    with installed(program) as root:
+        there = {file.stem for file in (root / "usr" / "share" / "srcp-server" / "bridges").glob("*.py")}
+    lines = set(re.findall(r"sudo systemctl enable --now srcp_bridge@(\w+) +#", page))
+    missing = set(re.findall(r"srcp_bridge@(\w+)", readme + page)) - there
+    is_told = "[One line each](docs/install.md#the-units) starts a driver and `withrottle`" in readme
+    got = missing, {"dcc_ex", "withrottle"} <= lines, is_told
+    return None if got == (set(), True, True) else f"without a program, a line each, told by the front page: {got}"
 
 
 @with_packaging_tools
@@ -229,7 +248,6 @@ def memory_of_the_unit_holds_panels_that_do_not_read(program):
 
 
 INSTALLED_CASES = (commands_of_the_package, programs_of_the_package_tell_its_version,
-                   pages_of_the_package_have_no_dead_link, units_of_the_package, page_on_phones_by_the_readme,
-                   reload_of_a_broken_configuration,
-                   start_that_waits_for_the_server, plan_that_a_unit_does_not_see,
-                   memory_of_the_unit_holds_panels_that_do_not_read)
+                   pages_of_the_package_have_no_dead_link, units_of_the_package, units_that_the_pages_enable,
+                   page_on_phones_by_the_readme, reload_of_a_broken_configuration, start_that_waits_for_the_server,
+                   plan_that_a_unit_does_not_see, memory_of_the_unit_holds_panels_that_do_not_read)

@@ -80,7 +80,8 @@ def send_to_who_drops_it(clients):
 
 
 def clients_that_are_turned_away_and_send(program):
-    """All places are taken, and ports fall back all the time. A session is answered soon all the same."""
+    """All places are taken, and ports fall back all the time. A session is answered soon all the same. It fails for a
+    door that reads the socket of each that lingers 64 times a turn."""
     with served(program) as (port, _):
         first, quiet, *_others = clients_at_all_places(port)
         first.asks_many([f"INIT 1 GA {address} N" for address in range(1, PULSES + 1)])
@@ -100,7 +101,8 @@ def clients_that_are_turned_away_and_send(program):
 
 
 def urgent_data_stalls_nobody(program):
-    """A read ends at urgent data, though more stands behind it: the commands behind it are answered all the same."""
+    """A read ends at urgent data, though more stands behind it: the commands behind it are answered all the same. It
+    fails for a door that takes a read that left space at urgent data for the last."""
     with served(program) as (port, server):
         throttle = Client(port, "COMMAND")
         throttle.socket.settimeout(3)
@@ -118,7 +120,8 @@ def urgent_data_stalls_nobody(program):
 
 
 def pulse_sent_to_a_server_that_stood_still(program):
-    """Other ports fall back meanwhile. The pulse is on for its time all the same, as a panel hears it."""
+    """Other ports fall back meanwhile. The pulse is on for its time all the same, as a panel hears it. It fails for a
+    door that hands out input in a turn that is late."""
     with served(program) as (port, server):
         throttle, panel = Client(port, "COMMAND"), Client(port, "INFO")
         throttle.asks(*(f"INIT 1 GA {address} N" for address in (4, 5, 6)), "SET 1 GA 4 0 1 100", "SET 1 GA 5 0 1 150")
@@ -134,7 +137,8 @@ def pulse_sent_to_a_server_that_stood_still(program):
 
 def fall_after_a_long_wait(program):
     """The system ends the waits of a process of low priority late by a two-hundredth: a pulse of 10 s ends in time all
-    the same. On a busy machine one of some servers is enough."""
+    the same. On a busy machine one of some servers is enough. It fails for a door that waits for all of a long time at
+    once."""
     with ExitStack() as stack:
         panels = []
         for _ in range(5):
@@ -203,7 +207,8 @@ def lines_to_the_end(client):
 
 def leaver_that_reads_late(program):
     """A session that ends itself while the server still holds replies for it, and that reads 3 s later, gets every one.
-    So does one that ends itself after the server slept for longer than such a peer is kept."""
+    So does one that ends itself after the server slept for longer than such a peer is kept. It fails for a door that
+    counts the 10 seconds of a peer from before its own sleep, and for one that lets a peer linger for a second."""
     with served(program) as (port, _):
         owed = replies_that_the_system_keeps(port) + 700
         late, sleeper = small_socket(port), small_socket(port)
@@ -220,7 +225,8 @@ def leaver_that_reads_late(program):
 
 
 def half_closed_session_that_does_not_read(program):
-    """It is owed replies and its input has ended: the server waits for it without work."""
+    """It is owed replies and its input has ended: the server waits for it without work. It fails for a door that does
+    not wait while a peer whose input is over is owed something."""
     with served(program) as (port, server):
         owed = replies_that_the_system_keeps(port) + 700
         with small_socket(port) as client:
@@ -231,7 +237,8 @@ def half_closed_session_that_does_not_read(program):
 
 
 def clients_that_are_turned_away_and_stay(program):
-    """They are owed nothing, so no session that ended and reads late is given up for them."""
+    """They are owed nothing, so no session that ended and reads late is given up for them. It fails for a door that
+    gives up the first that it keeps aside, whatever that is owed."""
     with served(program) as (port, _):
         owed = replies_that_the_system_keeps(port) + 700
         readers = [small_socket(port) for _ in range(READERS)]
@@ -265,7 +272,8 @@ def panels_that_are_closed(port, throttle, count):
 
 
 def newcomer_beside_64_that_ended_and_are_owed(program):
-    """Who comes is served at once beside 64 panels that were closed and take nothing: 63 places are free."""
+    """Who comes is served at once beside 64 panels that were closed and take nothing: 63 places are free. It fails for
+    a door that lets those wait for a place that 64 others are owed something beside."""
     with served(program) as (port, _):
         throttle = Client(port, "COMMAND")
         throttle.asks_many([f"INIT 1 GL {address} N 1 28 5" for address in range(1, ROWS + 1)])
@@ -281,8 +289,8 @@ def newcomer_beside_64_that_ended_and_are_owed(program):
 
 
 def end_of_a_session_with_much_behind_it(program):
-    """16 MB come behind the command that ends a session: they are dropped as fast as they come, and the reply is
-    there."""
+    """16 MB come behind the command that ends a session: they are dropped as fast as they come, and the reply is there.
+    It fails for a door that drops 4,096 bytes a turn of what comes behind an end."""
     with served(program) as (port, _):
         leaver = Client(port, "COMMAND")
         begun = time.monotonic()
@@ -297,7 +305,8 @@ def end_of_a_session_with_much_behind_it(program):
 
 def clients_at_64_places(program):
     """Clients that find no free slot are turned away. If they stay they cost no work, and the next one is let in once a
-    slot is free."""
+    slot is free. It fails for a door that does not rest while a peer lingers, and for one that accepts nobody while 64
+    are there."""
     with served(program) as (port, server):
         sessions = clients_at_all_places(port)
         turned_away = [socket.create_connection(("127.0.0.1", port), timeout=SECONDS) for _ in range(10)]

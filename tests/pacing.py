@@ -110,7 +110,8 @@ def in_a_process(reads, *words):
 
 
 def sessions_on_both_sides(program):
-    """Sessions that send without end have slots before the panels and behind them: no panel that reads is closed."""
+    """Sessions that send without end have slots before the panels and behind them: no panel that reads is closed. It
+    fails for a door that lets lines weigh 176 in a turn, however far a panel is behind."""
     for before, behind in ((16, 16), (24, 8)):
         with served(program) as (port, _):
             first = Client(port, "COMMAND")
@@ -133,8 +134,9 @@ def sessions_on_both_sides(program):
 
 
 def quiet_session_beside_many(program):
-    """A session that sends one change at a time is answered soon, though others send without end and a panel reads.
-    It has the last place, or one that sends nothing has."""
+    """A session that sends one change at a time is answered soon, though others send without end and a panel reads. It
+    has the last place, or one that sends nothing has. It fails for a door that gives all shares anew each turn, and for
+    one that forgets that a peer was refused its first line, if another behind it is not."""
     for behind in (0, 1):
         replies = quiet_replies(program, behind)
         if replies != ["200 OK"] * 5:
@@ -162,7 +164,8 @@ def quiet_replies(program, behind):
 
 
 def sessions_that_do_not_wait_have_like_shares(program):
-    """Of few and of many sessions that send without end none is answered half as often again as another."""
+    """Of few and of many sessions that send without end none is answered half as often again as another. It fails for a
+    door that takes the first lines of a share that the pace cuts for all of it."""
     for count in SENDERS:
         told = replies_to_each(program, count)
         if max(told) >= MOST_AHEAD * min(told):
@@ -190,7 +193,8 @@ def replies_to_each(program, count):
 
 
 def commands_in_one_go(program):
-    """Without a panel the pieces of commands that come in one go follow one another without a wait."""
+    """Without a panel the pieces of commands that come in one go follow one another without a wait. It fails for a door
+    that waits 8 ms in each turn that has input to hand out."""
     with served(program) as (port, _):
         throttle = Client(port, "COMMAND")
         began, answered = time.monotonic(), 0
@@ -255,7 +259,8 @@ def panels_closed_by_pauses(program, senders, seconds):
 
 
 def end_of_a_session_with_locks(program):
-    """A session that ends with 150 locks, beside 16 that send without end, closes no panel."""
+    """A session that ends with 150 locks, beside 16 that send without end, closes no panel. It fails for a door that
+    leaves nothing to moments and the ends of sessions."""
     with served(program) as (port, _):
         holder = Client(port, "COMMAND")
         panel = Client(port, "INFO")
@@ -286,7 +291,7 @@ def told_to_the_end(client, seconds):
 
 def half_closed_panel_beside_many(program):
     """A panel that sends no more is sent its whole listing while 32 sessions send without end, and then its stream
-    ends."""
+    ends. It fails for a door that reports an end only after a turn without a write."""
     with served(program) as (port, _):
         first = Client(port, "COMMAND")
         first.asks_many([f"INIT 1 GL {address} N 1 28 5" for address in range(1, ROWS + 1)])

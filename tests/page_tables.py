@@ -1,5 +1,6 @@
 """The tables of the pages for those who change the program: what they name is in the code, with the values told."""
 import re
+from functools import cache
 from pathlib import Path
 
 TOP = Path(__file__).resolve().parent.parent
@@ -21,7 +22,19 @@ OF_THE_TEXT = (("At most {:,} bytes stand before the LF", "LONGEST_READ"),
                ("longer than {} bytes with its LF", "LONGEST_LINE"),
                ("buses of the layout are 1 to {}.", "GREATEST_BUS"), ("V and Vmax are 0 to {}, and", "GREATEST_SPEED"),
                ("{} changes may wait for a panel.", "MOST_WAITING"), ("has at most {} connections", "MOST_CONNECTIONS"),
-               ("takes {} bytes of a client at once", "MOST_IN_PIECE"))
+               ("takes {} bytes of a client at once", "MOST_IN_PIECE"),
+               ("which stands for `P 1 28 {}`.", "DEFAULT_FUNCTIONS"))
+GRAMMAR, LAYOUT, DOCUMENT, WELL_FORMED = ("srcp_grammar/specs/Grammar.antt", "srcp_grammar/specs/Layout.antt",
+                                          "srcp_layout_file/specs/Document.antt", "srcp_info/specs/WellFormed.antt")
+# The constants of what clients send and of a configuration, and the definitions that cite each.
+CITED = ((("MOST_FUNCTIONS", "GREATEST_VERSION", "MOST_STEPS", "GREATEST_SPEED", "MOST_SECONDS"),
+          (GRAMMAR, WELL_FORMED)),
+         (("GREATEST_GL", "GREATEST_GA", "GREATEST_FB", "FEWEST_PORTS"), (LAYOUT, DOCUMENT)),
+         (("MOST_PORTS",), (WELL_FORMED, LAYOUT, DOCUMENT)), (("GREATEST_BUS",), (LAYOUT, GRAMMAR, DOCUMENT)),
+         (("GREATEST_PORT", "DEFAULT_PORT"), ("srcp_layout_file/specs/Limits.antt",)),
+         (("DEFAULT_STEPS", "DEFAULT_FUNCTIONS"), (GRAMMAR,)), (("LONGEST_TEXT",), (WELL_FORMED,)),
+         (("MOST_MILLISECONDS",), (GRAMMAR, "srcp_grammar/specs/Command.antt")),
+         (("GREATEST_ID",), ("srcp_core/specs/Acts.antt",)))
 # Pages that tell what was, in which a name is no place to change.
 NEWS = {"CHANGELOG.md", "CONTRIBUTING.md", "packaging/changelog"}
 # The numbers that stand bare in the code of a file and are no limits, and what they are.
@@ -51,13 +64,13 @@ NO_LIMITS = (
     ("srcp_sockets/src/mio_system.rt", {1_000_000}, "nanoseconds of a millisecond"),
     ("srcp_sockets/src/options.rt", {4, 16}, "bytes of a number and of a value of the system"),
     ("srcp_sockets/src/sockets/turns.rt", {3}, "calls"),
+    ("srcp_stations/src/dataset.rt", {3}, "place of a byte"),
     ("srcp_text/specs/Marks.antt", {13}, "byte"),
     ("srcp_text/specs/Stamp.antt", {10, 48, 100, 1000}, "digits, the byte of 0, milliseconds of a second"),
     ("srcp_text/specs/Words.antt", {10, 48, 49}, "base, and the bytes of digits"),
     ("srcp_text/src/iter.rt", {3}, "bytes of a word of one byte between blanks"),
     ("srcp_text/src/number.rt", {10}, "base"),
     ("srcp_text/src/put.rt", {10, 20, 100, 1000}, "numbers of one digit more, and the most digits"),
-    ("srcp_text_tests/src/stamps.rt", {21}, "bytes of the longest stamp"),
 )
 # What is no code: comments, texts, and the constants and definitions that give a number its name.
 NO_CODE = {".rt": r"""//[^\n]*|"(?:[^"\\]|\\.)*"|'(?:[^'\\\n]|\\[^'\n]+)'"""
@@ -114,6 +127,7 @@ def value_of(expression, constants):
     return eval(re.sub(r" as \w+", "", expression), {"__builtins__": {}}, words)
 
 
+@cache
 def constants_of_the_code():
     """Each constant of the code that is a number: {(file, name): value}."""
     found, values = {}, {}
@@ -147,6 +161,11 @@ def limits_of_the_architecture_page(_):
     return None if len(rows) > 30 else f"{len(rows)} rows"
 
 
+def forms_of(constant):
+    """Returns how definitions cite a constant: as its number, and by its name in small letters."""
+    return [str(value) for (_, name), value in constants_of_the_code().items() if name == constant] + [constant.lower()]
+
+
 def refusals_of_the_architecture_page(_):
     """Asserts that what refuses a wrong limit is there: a file of the proof, a name in the crates, or a case. Each file
     of definitions cites the limit by the name of its constant in small letters, or has it as a number."""
@@ -161,7 +180,8 @@ def refusals_of_the_architecture_page(_):
             is_case = (TOP / "tests" / "cases" / text).is_dir() or f"def {text.replace('-', '_')}(program" in cases
             if not (is_case or (CRATES / text).exists() or is_in(code, text.rstrip("!"))):
                 return f"{limit}: no {text}"
-    return None
+    return next((f"{name}: not in {file}" for names, files in CITED for name in names for file in files
+                 if not any(is_in((CRATES / file).read_text(), form) for form in forms_of(name))), None)
 
 
 def limits_of_the_protocol_page(_: str) -> str | None:

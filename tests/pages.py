@@ -18,7 +18,8 @@ from contextlib import ExitStack, contextmanager, suppress
 from pathlib import Path
 from queue import Empty, Queue
 
-from page_tables import PAGE_TABLE_CASES, quoted, rows_under
+from choices import BEFORE_GO, IN_A_SESSION
+from page_tables import PAGE_TABLE_CASES
 from serving import SECONDS, Client, TriedNothing, free_ports, served, wait_for
 
 TOP = Path(__file__).resolve().parent.parent
@@ -26,6 +27,7 @@ STAND_INS = Path(__file__).resolve().parent / "stand_ins"
 # Programs that run until they are ended, and those of them that others then connect to.
 STAYS = ("./run serve", "nc ", "ssh ", "python3 examples/panel.py", "python3 bridges/", "mosquitto_sub ")
 LISTENS = {"./run serve": "4303", "ssh ": "5303"}
+WRONG_DOORS = 47  # cases that say for which they fail
 PACKING = 120  # seconds that ./package may take on a busy machine: it asks each program for its help
 BLOCK = re.compile(r"^```(\w*)\n(.*?)^```$", re.M | re.S)
 ENDED = "(the end)"
@@ -48,6 +50,7 @@ class Program:
 
     def __init__(self, command, folder, environment):
         self.command = command
+        self.patience = PACKING if command.startswith("./package") else SECONDS
         self.process = subprocess.Popen(
             ["bash", "-c", command], cwd=folder, env=environment, stdin=subprocess.PIPE, stdout=subprocess.PIPE,
             stderr=subprocess.STDOUT, start_new_session=True,
@@ -70,7 +73,7 @@ class Program:
     def line(self):
         """The next line that is printed, its stamp aside; ENDED once the program ended, SILENT if it prints none."""
         try:
-            return STAMP.sub("NOW ", self.lines.get(timeout=SECONDS))
+            return STAMP.sub("NOW ", self.lines.get(timeout=self.patience))
         except Empty:
             return SILENT
 
@@ -235,31 +238,48 @@ def unlike_the_table(rows, client_of):
     return None if rows else "no rows"
 
 
+def rows_by_rule(answers, *headings):
+    """Returns lines with their last answers, as the rows of a table. It fails if the protocol's page does not have such
+    an answer below one of these headings."""
+    page = (TOP / "docs" / "protocol.md").read_text()
+    told = "".join(page.partition(f"{heading}\n")[2].partition("\n##")[0] for heading in headings)
+    codes = re.findall(r"^\| [^|]* \| (\d{3}) \|", told, re.M)
+    untold = sorted(want for want in answers if want not in told and want[:3] not in codes)
+    assert not untold, f"not below {headings}: {untold}"
+    return [(line.split(", "), want) for want, lines in answers.items() for line in lines]
+
+
 def choices_before_go(program):
-    rows = rows_of_tables("docs/protocol.md", "Sent before `GO`")
+    """Each line has the answer that the table of the handshake says."""
+    rows = rows_by_rule(BEFORE_GO, "\n## Handshake", "\n## Information lines")
     with served(program) as (port, _):
         return unlike_the_table(rows, lambda: Client(port, None))
 
 
 def choices_in_a_session(program):
+    """First the lines of the page, then those that its rules decide, each with a reply that the page has."""
     rows = rows_of_tables("docs/protocol.md", "Sent")
+    by_rule = rows_by_rule(IN_A_SESSION, "\n### Replies", "\n## Information lines")
     with reader_of_a_page(program) as reader:
         if fault := reader.follows(["$ ./run serve --config examples/layout.toml"]):
             return fault
         first = Client(reader.ports["4303"], "COMMAND")
         first.asks("INIT 1 GL 7 N 1 28 5", "SET 1 LOCK GL 7 0")
         second = Client(reader.ports["4303"], "COMMAND")
-        return unlike_the_table(rows, lambda: second)
+        return unlike_the_table(rows, lambda: second) or unlike_the_table(by_rule, lambda: second)
 
 
 def choices_that_cases_show(_):
-    """Each case that the page names is there, and so is each that the page of the door names in its table."""
-    named = re.findall(r"^\|.* \| `([a-z0-9-]+)` \|$", (TOP / "docs" / "protocol.md").read_text(), re.M)
-    named += [case for cases, _ in rows_under("door.md", "What only cases show") for case in quoted(cases)]
+    """Each case that the page names is there. Cases say for which wrong doors they fail: the door's page says so."""
+    page = (TOP / "docs" / "protocol.md").read_text()
+    named = re.findall(r"^\|.* \| `([a-z0-9-]+)` \|$", page, re.M) + re.findall(r"the\s+case\s+`([a-z0-9-]+)`", page)
     functions = "".join(file.read_text() for file in (TOP / "tests").glob("*.py"))
     missing = [name for name in named if not (TOP / "tests" / "cases" / name).is_dir()
                and f"def {name.replace('-', '_')}(program" not in functions]
-    return f"no such case: {missing}" if missing else None if named else "no case is named"
+    doors = len(re.findall(r"[Ii]t\s+fails\s+for\s+a\s+door\s+that", functions))
+    if missing or len(named) < 20 or doors < WRONG_DOORS:
+        return f"no such case: {missing}; {len(named)} are named, and {doors} say for which wrong doors they fail"
+    return None
 
 
 def gate_that_proves_what_is_new(_):

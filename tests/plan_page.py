@@ -27,6 +27,7 @@ LIMITS = (("of at most {:,} bytes", "CONFIG_LIMIT"), ("| `bus` | 1 to {}:", "GRE
           ("and a port of 0 to {} |", "MOST_PORTS"), ("arrays of a bus and a sensor of 1 to {} |", "GREATEST_FB"),
           ("an array of a bus, an address of 1 to {},", "GREATEST_GA"),
           ("an array of a bus and a sensor of 1 to {} |", "GREATEST_FB"),
+          ("| `delay` | 1 to {}:", "LONGEST_DELAY"), ("before such a train | {} |", "DEFAULT_DELAY"),
           ("The bus of a device is 1 to {},", "GREATEST_BUS"))
 
 

@@ -117,15 +117,17 @@ def root_that_takes_too_long(_: str) -> str | None:
 
 
 def packages_of_the_gate(_: str) -> str | None:
-    """The gate's page has those that .ci/run installs and no others, and how the other Python is asked for."""
+    """The gate's page has those that .ci/run installs and no others, how the other Python is asked for, and which call
+    .ci/run makes."""
     if not (run := TOP / ".ci" / "run").exists():
         raise TriedNothing("there is no .ci/run here")
     page = " ".join((TOP / "docs" / "gate.md").read_text().split())
     told = re.findall(r"Some cases need Debian's ([^.]*), which `.ci/run` installs", page)
     named = set(re.split(", | and ", told[0]))
     installed = set(re.findall(r'^packages="([^"]*)"', run.read_text(), re.M)[0].split())
-    is_told = f"With `{ASKED}=yes`" in page
-    return None if named == installed and is_told else f"not on both: {named ^ installed}; told of {ASKED}: {is_told}"
+    called = f"`{re.findall(r'^exec (.*)$', run.read_text(), re.M)[-1]}`, which `.ci/run` calls"
+    missing = [text for text in (f"With `{ASKED}=yes`", called) if text not in page]
+    return f"not on both: {named ^ installed}; not told: {missing}" if named != installed or missing else None
 
 
 def systems_of_the_pages(_: str) -> str | None:

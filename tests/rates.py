@@ -110,21 +110,25 @@ def closed_after(port, lines_a_second, seconds, command=b"SET 1 FB 1 %d\n"):
 
 
 def panel_that_reads_a_little_faster_than_a_line_a_millisecond(program):
-    """It is kept beside a session that sends without end."""
+    """It is kept beside a session that sends without end. It fails for a door that lets lines weigh 88 in a turn,
+    however far a panel is behind, and for one that tries a socket that is full only once the system tells that it takes
+    more."""
     with served(program) as (port, _):
         closed = closed_after(port, 1_500, SECONDS_OF_LOAD)
     return None if closed is None else f"it is closed after {closed:.1f} s"
 
 
 def panel_that_reads_a_little_faster_than_a_change_a_millisecond(program):
-    """It is kept too if every second command brings it 9 changes."""
+    """It is kept too if every second command brings it 9 changes. It fails for a door that lets a line through each
+    millisecond, whatever it weighs."""
     with served(program, layout=EIGHT_PORTS) as (port, _):
         closed = closed_after(port, 1_500, SECONDS_OF_LOAD, b"INIT 1 GA 5 N %d\nTERM 1 GA 5\n")
     return None if closed is None else f"it is closed after {closed:.1f} s"
 
 
 def panel_that_reads_slower_than_a_line_a_millisecond(program):
-    """It is closed once all buffers on its way are full, so that nobody waits for it for ever."""
+    """It is closed once all buffers on its way are full, so that nobody waits for it for ever. It fails for a door that
+    lets no line through while a panel is behind."""
     with served(program) as (port, _), counting_wakes() as wakes_a_second:
         closed = closed_after(port, TOO_FEW, LONGEST_UNTIL_CLOSED)
         woken = wakes_a_second()
@@ -134,7 +138,8 @@ def panel_that_reads_slower_than_a_line_a_millisecond(program):
 
 
 def changes_reach_a_panel_that_acknowledges_late(program):
-    """The panel's system acknowledges 40 ms late, and a change comes each few milliseconds. None waits for that."""
+    """The panel's system acknowledges 40 ms late, and a change comes each few milliseconds. None waits for that. It
+    fails for a door that lets the system wait for an acknowledgement before it sends a small piece."""
     with served(program) as (port, _):
         throttle, panel = Client(port, "COMMAND"), Client(port, "INFO")
         panel.hears_until(b" 100 INFO 1 FB 8 0\n")
@@ -189,7 +194,7 @@ def milliseconds_until_closed(program, locomotives):
 
 def panel_whose_socket_takes_nothing_more(program):
     """It is closed 150 ms later or more beside a session that sends without end. So is one that did not read its
-    listing."""
+    listing. It fails for a door that leaves 120 changes to moments and the ends of sessions."""
     for locomotives in (0, LOCOMOTIVES):
         if (kept := milliseconds_until_closed(program, locomotives)) < KEPT:
             return f"with {locomotives} locomotives it is closed {kept} ms later"
@@ -219,7 +224,7 @@ def emergency_stop_goes_first(program):
 
 def changes_at_one_moment_beside_many(program):
     """Ports fall back at one moment, 149 of them, while sessions before and behind a panel send without end. The panel
-    is sent each fall."""
+    is sent each fall. It fails for a door that leaves nothing to moments and the ends of sessions."""
     with served(program) as (port, _):
         first = Client(port, "COMMAND")
         addresses = [range(fall * PORTS + 1, (fall + 1) * PORTS + 1) for fall in range(FALLS)]
@@ -243,7 +248,8 @@ def changes_at_one_moment_beside_many(program):
 
 
 def falls_at_a_server_that_stood_still(program):
-    """Ports fall back one after another while the server stands still. A panel that reads is told each fall."""
+    """Ports fall back one after another while the server stands still. A panel that reads is told each fall. It fails
+    for a door that goes on by 10 ms after a stall, whatever falls due in it."""
     with served(program) as (port, server):
         first = Client(port, "COMMAND")
         addresses = [range(step * FALLS_A_MILLISECOND + 1, (step + 1) * FALLS_A_MILLISECOND + 1)

@@ -160,7 +160,8 @@ def run_unpacks_a_program_that_was_cut_again(program):
 
 @with_packaging_tools
 def run_tells_where_the_program_is(program):
-    """The released one, and once it is built the built one: the page of installing has it so."""
+    """The released one, and once it is built the built one: the page of installing has it so. CONTRIBUTING.md says how
+    cases run over the released one."""
     with released_repository(program) as (top, environment, _):
         def where(*words):
             return subprocess.run([top / "run", *words, "--where"], env=environment, capture_output=True, text=True,
@@ -169,8 +170,11 @@ def run_tells_where_the_program_is(program):
         unpacked, = (top / "out" / "released").glob("*/srcp_server")
         (top / "rt").rename(top / "tools" / "rt")
         built = where("--build")
-    got = released, built, '"$(./run --where)" /usr/local/bin/srcp_server' in (TOP / "docs" / "install.md").read_text()
-    return None if got == (f"{unpacked}\n", f"{top}/crates/srcp_server/out/srcp_server\n", True) else f"got {got}"
+    told = ('"$(./run --where)" /usr/local/bin/srcp_server' in (TOP / "docs" / "install.md").read_text(),
+            "run_cases.py out/released/*/srcp_server NAME" in (TOP / "CONTRIBUTING.md").read_text())
+    got = released, built, told
+    want = f"{unpacked}\n", f"{top}/crates/srcp_server/out/srcp_server\n", (True, True)
+    return None if got == want else f"got {got}"
 
 
 @contextmanager
@@ -291,7 +295,7 @@ def lay_test(top: Path) -> None:
     repository has a file `bad`."""
     shutil.copy(TOP / "test", top)
     called = "import os, sys\nopen('log', 'a').write(' '.join(sys.argv) + '\\n')\nsys.exit(os.path.exists('bad'))\n"
-    for name in ("tests/run_cases.py", "tests/run_out_of_memory.py", "tools/refused.py"):
+    for name in ("tests/run_cases.py", "tests/run_out_of_memory.py", "tools/refused.py", "tools/broken.py"):
         (top / name).parent.mkdir(exist_ok=True)
         (top / name).write_text(called)
 
@@ -327,7 +331,7 @@ def test_without_the_kit(program: str) -> str | None:
 
 def test_with_the_kit(program: str) -> str | None:
     """./test runs what it built, and calls neither ./run nor what is released. With --all it tries the other wrong
-    bodies too. It ends where something fails. Any other word is refused."""
+    bodies and wrong programs too. It ends where something fails. Any other word is refused."""
     with repository_of_one_crate(program) as (top, environment):
         lay_test(top)
         (top / "tools" / "python3").symlink_to(sys.executable)
@@ -338,7 +342,8 @@ def test_with_the_kit(program: str) -> str | None:
         (top / "bad").touch()
         bad = outcome_of_test(top, environment, "--all")
     calls = ["rt ci", "tests/run_out_of_memory.py", "tests/run_cases.py crates/srcp_server/out/srcp_server"]
-    with_all = [*calls, "tools/refused.py --minutes 45"]
+    with_all = [*calls, "tools/refused.py --of-ci --minutes 45",
+                "tools/broken.py --minutes 5 crates/srcp_server/out/srcp_server"]
     if (plain[::2], every[::2], bad[::2]) != ((0, calls), (0, with_all), (1, with_all[:2])):
         return f"got {plain}, with --all {every}, with what fails {bad}"
     return None if wrong == (2, "usage: ./test [--all]\n", []) else f"another word: {wrong}"

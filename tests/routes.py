@@ -18,6 +18,7 @@ PLANS = 250
 LISTS = 20  # of events, of each plan
 EVENTS = 80  # of each list
 TRAINS = 500  # so many at least give their routes back by sections, over all lists
+DELAYS = 300  # so many delays begin at least, over all lists
 OWN = 9  # the bus of the routes
 TURNOUTS = [(bus, address) for bus in (1, 2) for address in range(1, 6)]
 SIGNALS = [(bus, address) for bus in (1, 2) for address in range(11, 14)]
@@ -44,6 +45,9 @@ def plan_of(draw):
             count = draw.randint(0, 4)
             sections = draw.sample(SENSORS, count) if draw.random() < 0.9 else draw.choices(SENSORS, k=count)
             lines.append(f"sections = {[list(each) for each in sections]}")
+        if draw.random() < 0.5:
+            approach = [list(each) for each in draw.sample(SENSORS, draw.randint(0, 2))]
+            lines += [f"approach = {approach}", *draw.choice(([], [f"delay = {draw.randint(1, 4)}"]))]
     return "\n".join(lines) + "\n"
 
 
@@ -94,6 +98,8 @@ def event_of(draw, model, drives):
         return draw.choice(REFUSALS) if draw.random() < 0.15 else "200 OK"
     if told := driven(draw, model, drives):
         return told
+    if draw.random() < 0.2:
+        return f"100 INFO {draw.choice((0, 0, 7))} TIME"
     what, route = draw.random(), draw.choice(model.routes).number
     if what < 0.45:
         return f"100 INFO {OWN} GA {route} 1 1"
@@ -142,16 +148,19 @@ def difference(program, text, lines):
 
 
 def routes_as_in_the_model(program):
-    """5,000 lists of events at random, over plans at random: asks, give-backs, trains, sensors, refusals and lost
-    sessions."""
-    draw, trains = random.Random(57), 0
+    """5,000 lists of events at random, over plans at random: asks, give-backs, trains, sensors, seconds, refusals
+    and lost sessions."""
+    draw, trains, delays = random.Random(57), 0, 0
     for _ in range(PLANS):
         text = plan_of(draw)
         model = Interlocking(tomllib.loads(text))
         if fault := difference(program, text, [pair for _ in range(LISTS) for pair in list_of(draw, model)]):
             return fault
         trains += model.trains
-    return None if trains >= TRAINS else f"{trains} trains have passed the sections of their routes, want {TRAINS}"
+        delays += sum(route.delays for route in model.routes)
+    if trains < TRAINS:
+        return f"{trains} trains have passed the sections of their routes, want {TRAINS}"
+    return None if delays >= DELAYS else f"{delays} delays began, want {DELAYS}"
 
 
 def orders_come_at_once(program):
@@ -305,6 +314,56 @@ def signals_fall_behind_the_head(program):
     return None
 
 
+PLAN_OF_AN_APPROACH = """bus = 9
+[[route]]
+number = 1
+turnouts = [[1, 1, 0]]
+signal = [2, 1, 2, 0]
+frees = [1, 5]
+approach = [[1, 8], [1, 9]]
+delay = 3
+[[route]]
+number = 2
+turnouts = [[1, 1, 1]]
+"""
+SECOND = "100 INFO 0 TIME"
+
+
+def routes_stay_locked_before_a_train(program):
+    """A route that is given back while a train may have seen its go stops its signal at once, and keeps its locks for
+    its delay. Another route over its turnout waits for so long."""
+    begins, refuses = ["200 OK GO 2", *[OK] * 3], "414 ERROR device locked"
+    begun = [*ORDERS, *ORDERS_1]
+    stops, *ends = ENDS_1
+    sets_2 = ["SET 1 LOCK GA 1 0", "SET 1 GA 1 1 1 250", "SET 9 FB 2 1"]
+    free, comes, asks_2 = told("8- 9-"), told("8- 9+"), "100 INFO 9 GA 2 1 1"
+    goes = [*begins, *comes, *SETS]
+    for lines, want in (
+            ([*begins, *free, *SETS, GIVES, OK], [stops, ends[0]]),  # no train is there
+            ([*goes, GIVES, OK, SECOND, SECOND], [stops]),
+            ([*goes, GIVES, OK, SECOND, SECOND, SECOND], [stops, ends[0]]),
+            ([*goes, GIVES, SECOND, SECOND, SECOND, OK], [stops, ends[0]]),  # the server takes long
+            ([*goes, SECOND, SECOND, GIVES, OK, SECOND, SECOND], [stops]),  # seconds of before count for nothing
+            ([*goes, GIVES, *free, OK, SECOND, SECOND], [stops]),  # the train has come into the route meanwhile
+            ([*goes, *free, GIVES, OK], [stops, ends[0]]),  # .. or before
+            ([*begins, *SETS, GIVES, OK], [stops]),  # nothing is known of the sensors
+            ([*begins, *free, *SETS, "102 INFO 1 FB 9", GIVES, OK], [stops]),
+            ([*goes, *told("5+ 5-"), OK], [stops]),  # its train gives it back, and the next one is there
+            ([*goes, GIVES, OK, asks_2, SECOND, SECOND], [stops]),
+            ([*goes, GIVES, OK, asks_2, SECOND, SECOND, SECOND, *[OK] * 5], [stops, *ends, *sets_2]),
+            ([*goes, GIVES, refuses, *[SECOND] * 3, GIVES, OK], [stops, stops]),  # the signal was stopped later
+            ([*goes, GIVES, refuses, *[SECOND] * 3, *free, GIVES, OK], [stops, stops, ends[0]]),
+            ([*goes, GIVES, refuses, SECOND, *free, GIVES, OK, SECOND], [stops, stops]),
+            ([*goes, GIVES, OK, *begins], [stops, *ORDERS]),  # the locks are gone
+            ([*goes, GIVES, OK, *begins, *free, *SETS, GIVES, OK], [stops, *begun, stops, ends[0]]),
+            ([*goes, *begins, *SETS[:2], refuses, OK], [*begun[:5], *ends])):  # its signal stopped as a session began
+        if (got := ordered(program, lines, PLAN_OF_AN_APPROACH)) != [*begun, *want]:
+            return f"{lines}: {got}, want {[*begun, *want]}"
+    goes = [*BEGINS, "100 INFO 1 FB 8 1", *SETS, *told("5+"), OK, *told("6+ 5- 7+ 6-"), OK]
+    got, want = ordered(program, goes, f"{PLAN_OF_SECTIONS}approach = [[1, 8]]\n"), [*ORDERS[:2], *ORDERS_1, *ENDS_1]
+    return None if got == want else f"behind a train: {got}, want {want}"
+
+
 ROUTE_CASES = (routes_as_in_the_model, orders_come_at_once, give_backs_are_carried_out,
                a_first_word_of_a_sensor_is_no_fall, no_order_before_a_session, trains_over_sections,
-               signals_fall_behind_the_head)
+               signals_fall_behind_the_head, routes_stay_locked_before_a_train)

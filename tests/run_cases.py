@@ -28,6 +28,7 @@ from pathlib import Path
 if sys.version_info < (3, 11):
     sys.exit("this takes Python 3.11 or later")
 
+from answers import ANSWER_CASES
 from arm64 import ARM64_CASES
 from bridge_tests import BRIDGE_CASES
 from client_modules import CLIENT_MODULE_CASES
@@ -35,10 +36,11 @@ from clients import CLIENT_CASES
 from debian_package import PACKAGE_CASES
 from doctor import DOCTOR_CASES
 from door import DOOR_CASES
+from drawings import DRAWING_CASES
 from faults import FAULT_CASES
 from front_page import FRONT_PAGE_CASES
 from house import HOUSE_CASES
-from inputs import INPUT_CASES
+from inputs import INPUT_CASES, parse_record
 from installed import INSTALLED_CASES
 from lingering import LINGERING_CASES
 from lint_and_status import LOOKING_CASES
@@ -54,6 +56,7 @@ from routes import ROUTE_CASES
 from run_script import RUN_SCRIPT_CASES
 from safety import SAFETY_CASES
 from serving import SERVING_CASES, TriedNothing, expected_text
+from station_words import STATION_WORD_CASES
 from tables import TABLE_CASES
 from turns import TURN_CASES
 from vanishing import VANISHING_CASES
@@ -67,19 +70,6 @@ CONFIG_LIMIT = 1_048_576
 SECONDS = 300
 LIMIT = 900  # seconds after which a case hangs
 LIMITS = {"bridges-by-the-python-of-debian-13": 3600}
-
-
-def parse_record(out):
-    """The output of replay: {number: {"sent", "word"}} and the refused events."""
-    connections, at = {}, 0
-    header = re.compile(rb"connection (\d+) (\d+) (\w+)\n")
-    while match := header.match(out, at):
-        sent = out[match.end():match.end() + int(match[2])]
-        connections[match[1].decode()] = {"sent": sent.decode("latin-1"), "word": match[3].decode()}
-        at = match.end() + len(sent) + (1 if sent and not sent.endswith(b"\n") else 0)
-    before_rows = re.split(rb"^rows \d+\n", out[at:], maxsplit=1, flags=re.M)[0]
-    refused = [line.removeprefix(b"refused ").decode() for line in before_rows.splitlines()]
-    return connections, refused
 
 
 def difference(name, got, want):
@@ -164,10 +154,27 @@ def output_that_cannot_be_written(program):
     return ended(done, 1, b"cannot write")
 
 
-def words_that_are_unknown(program):
-    done = subprocess.run([program, "mirror", "mirror"], capture_output=True, timeout=SECONDS)
-    is_told = done.returncode == 2 and done.stdout == b"" and done.stderr.startswith(b"error: ")
-    return None if is_told else f"got {(done.returncode, done.stderr, done.stdout)!r}"[:400]
+# Words that ask for nothing, each with what clap says first. The usage follows, and the status is 2.
+NO_WORDS = {
+    "mirror mirror": "unexpected argument 'mirror' found",
+    "mirror --config f": "unexpected argument '--config' found",
+    "interlock --plan f --config f": "unexpected argument '--config' found",
+    "interlock": "the following required arguments were not provided:",
+    "serve --turns 3": "the following required arguments were not provided:",
+    "serve --config f --turns x": "invalid value 'x' for '--turns <N>': invalid digit found in string",
+    "serve --config f --turns 18446744073709551616":
+        "invalid value '18446744073709551616' for '--turns <N>': number too large to fit in target type",
+    "reply": "unrecognized subcommand 'reply'",
+}
+
+
+def words_that_ask_for_nothing(program):
+    for words, fault in NO_WORDS.items():
+        done = subprocess.run([program, *words.split()], capture_output=True, text=True, timeout=SECONDS)
+        got = done.returncode, done.stdout, done.stderr.partition("\n")[0]
+        if got != (2, "", f"error: {fault}"):
+            return f"{words}: got {got!r}"
+    return None
 
 
 def check_of_no_file_or_of_two(program):
@@ -338,17 +345,17 @@ def case_that_hangs(program):
 
 
 STREAM_CASES = (input_past_its_limit, input_at_its_limit, input_that_cannot_be_read, output_that_cannot_be_written,
-                words_that_are_unknown, check_of_no_file_or_of_two, word_that_is_no_text, configuration_at_its_limit,
-                configuration_past_its_limit, routes_past_the_limit_of_an_input, routes_whose_input_cannot_be_read,
-                routes_whose_orders_cannot_be_written, script_past_its_limit, script_at_its_limit,
-                script_that_cannot_be_read, run_that_cannot_be_written, run_in_little_memory,
+                words_that_ask_for_nothing, check_of_no_file_or_of_two, word_that_is_no_text,
+                configuration_at_its_limit, configuration_past_its_limit, routes_past_the_limit_of_an_input,
+                routes_whose_input_cannot_be_read, routes_whose_orders_cannot_be_written, script_past_its_limit,
+                script_at_its_limit, script_that_cannot_be_read, run_that_cannot_be_written, run_in_little_memory,
                 full_bus_that_stalls_nobody, case_that_hangs)
-ALL_CASES = (STREAM_CASES + TABLE_CASES + INPUT_CASES + SERVING_CASES + DOOR_CASES + FAULT_CASES + CLIENT_CASES
-             + FRONT_PAGE_CASES + PAGE_CASES + NAME_CASES + RUN_SCRIPT_CASES + SAFETY_CASES + LOOKING_CASES
-             + DOCTOR_CASES + HOUSE_CASES + PACKAGE_CASES + INSTALLED_CASES + RELEASE_CASES + ARM64_CASES
-             + LINGERING_CASES + VANISHING_CASES + PACING_CASES + RATE_CASES + TURN_CASES + ROUTE_CASES
+ALL_CASES = (STREAM_CASES + TABLE_CASES + ANSWER_CASES + DRAWING_CASES + INPUT_CASES + SERVING_CASES + DOOR_CASES
+             + FAULT_CASES + CLIENT_CASES + FRONT_PAGE_CASES + PAGE_CASES + NAME_CASES + RUN_SCRIPT_CASES + SAFETY_CASES
+             + LOOKING_CASES + DOCTOR_CASES + HOUSE_CASES + PACKAGE_CASES + INSTALLED_CASES + RELEASE_CASES
+             + ARM64_CASES + LINGERING_CASES + VANISHING_CASES + PACING_CASES + RATE_CASES + TURN_CASES + ROUTE_CASES
              + WRONG_BODY_CASES + WRONG_PROGRAM_CASES + PYTHON_CASES + CLIENT_MODULE_CASES + PLAN_PAGE_CASES
-             + PYTHON_LIMIT_CASES + BRIDGE_CASES)
+             + PYTHON_LIMIT_CASES + STATION_WORD_CASES + BRIDGE_CASES)
 BESIDE = 10  # cases of bridges/ at once
 
 

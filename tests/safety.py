@@ -4,23 +4,13 @@ import subprocess
 import tempfile
 import time
 
-from serving import SECONDS, Client, free_port, served
+from serving import SECONDS, Client, free_port, layout_bus, served
 
 SENSORS = b" 100 INFO 1 FB 8 0\n"
 CHANGES = 10_000
 LOCKS = 256
-CLUB = """port = {port}
-[[bus]]
-number = 3
-groups = ["GL", "FB"]
-gl_max = 99
-fb_ports = 13
-[[bus]]
-number = 250
-groups = ["POWER", "GA"]
-ga_max = 2044
-ga_ports = 5
-"""
+CLUB = ("port = {port}\n" + layout_bus(3, "GL FB", gl_max=99, fb_ports=13)
+        + layout_bus(250, "POWER GA", ga_max=2044, ga_ports=5))
 
 
 def first_unlike(*steps):

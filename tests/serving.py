@@ -12,14 +12,15 @@ from collections import Counter
 from contextlib import ExitStack, contextmanager
 from pathlib import Path
 
-LAYOUT = """port = {port}
-[[bus]]
-number = 1
-groups = ["POWER", "GL", "GA", "FB"]
-gl_max = 10239
-ga_max = 2044
-fb_ports = 8
-"""
+
+def layout_bus(number: int, groups: str, **most: int) -> str:
+    """Returns a bus of a layout: its groups, one word each, and the numbers of its keys."""
+    words = ", ".join(f'"{group}"' for group in groups.split())
+    keys = "".join(f"{key} = {value}\n" for key, value in most.items())
+    return f"[[bus]]\nnumber = {number}\ngroups = [{words}]\n{keys}"
+
+
+LAYOUT = "port = {port}\n" + layout_bus(1, "POWER GL GA FB", gl_max=10239, ga_max=2044, fb_ports=8)
 WELCOME = b"srcp_server 1.0; SRCP 0.8.4; SRCPOTHER 0.8.3\n"
 RELEASE, *_ = re.findall(rb"^## (.*)$", (Path(__file__).parent.parent / "CHANGELOG.md").read_bytes(), re.M)
 # What the program says to `--version`: the version of the welcome line, and the newest of the changes.
@@ -210,7 +211,8 @@ def peer_65_is_turned_away(program):
 
 def peers_that_harm_nobody(program):
     """One resets, one sends garbage, one never reads: a throttle is answered all the same, and is told of nothing. The
-    one that never reads overruns: it finds whole lines, then the end, before which the last line may be cut."""
+    one that never reads overruns: it finds whole lines, then the end, before which the last line may be cut. It fails
+    for a door that lets no line through while a panel is behind."""
     with served(program) as (port, server):
         throttle = Client(port, "COMMAND")
         silent = Client(port, "INFO", receives=4096)

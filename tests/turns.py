@@ -95,7 +95,8 @@ def stops_of(quiet: Client) -> list[float]:
 
 def stop_from_each_place(program):
     """Beside a panel that reads 1.2 lines a millisecond and 60 sessions that send without end, an emergency stop goes
-    within two services of each: from the first place, the middle and the last. The 60 are answered alike."""
+    within two services of each: from the first place, the middle and the last. The 60 are answered alike. It fails for
+    a door that lets a peer of which nothing was handed out for 50 ms go first, with a whole share."""
     for before in (0, SENDERS // 2, SENDERS):
         with served(program) as (port, _):
             first = Client(port, "COMMAND")
@@ -121,7 +122,8 @@ def unlike(answered: list[int]) -> str | None:
 
 
 def sessions_that_make_accessories_beside_a_slow_panel(program):
-    """They are answered alike, though each of their lines may bring eleven changes."""
+    """They are answered alike, though each of their lines may bring eleven changes. It fails for a door that lets a
+    peer of which nothing was handed out for 50 ms go first, with a whole share."""
     for count in MAKERS:
         with served(program, layout=EIGHT_PORTS) as (port, _):
             makers = Senders(port, count, INITS)
@@ -133,7 +135,8 @@ def sessions_that_make_accessories_beside_a_slow_panel(program):
 
 
 def newcomer_beside_a_slow_panel(program):
-    """It is greeted and logged in soon, though 60 sessions send without end."""
+    """It is greeted and logged in soon, though 60 sessions send without end. It fails for a door that lets a peer of
+    which nothing was handed out for 50 ms go first, with a whole share."""
     with served(program) as (port, _):
         senders = Senders(port, SENDERS, SETS)
         with panel_reading(port, LINES_A_SECOND), sending(senders):

@@ -61,7 +61,8 @@ def send_until_nothing_is_taken(client):
 
 
 def panels_that_do_not_read(program):
-    """The system holds at most 256 KB for each, however many changes come."""
+    """The system holds at most 256 KB for each, however many changes come. It fails for a door that lets the system
+    hold what it likes for a socket."""
     most = 0
     with served(program) as (port, _):
         throttle = Client(port, "COMMAND")
@@ -76,7 +77,8 @@ def panels_that_do_not_read(program):
 
 def peers_that_vanish(program):
     """A session and a panel whose systems answer no more are lost after half a minute, and the lock of the session with
-    it. So is a session whose system takes no more, since it does not read its replies."""
+    it. So is a session whose system takes no more, since it does not read its replies. It fails for a door that never
+    asks whether a peer is still there."""
     with served(program) as (port, _):
         throttle = Client(port, "COMMAND")
         panel = Client(port, "INFO")
@@ -114,7 +116,8 @@ def read_steadily(client, bytes_a_second, seconds):
 
 
 def session_that_reads_slowly_all_the_time(program):
-    """It is kept, and its lock with it, though it is owed more than the systems on the way hold."""
+    """It is kept, and its lock with it, though it is owed more than the systems on the way hold. It fails for a door
+    that counts the time of the system while a peer reads slowly."""
     with served(program) as (port, _):
         owner, other = Client(port, "COMMAND", WINDOW), Client(port, "COMMAND")
         owner.asks("INIT 1 GL 3 N 1 28 4", "SET 1 LOCK GL 3 0")
@@ -134,7 +137,8 @@ def is_gone(panel, asker):
 
 
 def panel_that_was_closed_and_does_not_read(program):
-    """The system holds something for it for 10 seconds, and then nothing: the connection is reset."""
+    """The system holds something for it for 10 seconds, and then nothing: the connection is reset. It fails for a door
+    that closes a peer that did not take all without a reset."""
     with served(program) as (port, _):
         throttle = Client(port, "COMMAND")
         panel = Client(port, "INFO", SMALL)
@@ -199,7 +203,8 @@ def sent_to_the_end(panel):
 
 def panels_that_were_closed_and_read_late(program):
     """One that reads 7 s after its close is sent first what had been sent before, no change missing, and then the end.
-    One that reads 12 s after its close finds what its own system holds, some 110 KB, and then the connection reset."""
+    One that reads 12 s after its close finds what its own system holds, some 110 KB, and then the connection reset. It
+    fails for a door that lets a peer linger for 6 seconds, and for one that lets a peer linger for 15 seconds."""
     with served(program) as (port, _):
         (late, closed), (in_time, _) = panels_that_overran(port, 2)
         time.sleep(IN_TIME)
@@ -217,7 +222,7 @@ def panels_that_were_closed_and_read_late(program):
 
 def panel_that_was_closed_and_had_read_fast(program):
     """Its own system holds more than 1 MB for it, and at most what `tcp_rmem` says. It is sent that and what the system
-    of the server held, and then the end."""
+    of the server held, and then the end. It fails for a door that lets a peer linger for a millisecond."""
     with served(program) as (port, _):
         asker = Client(port, "COMMAND")
         with sending_without_end([Client(port, "COMMAND") for _ in range(SENDERS)]):

@@ -154,20 +154,26 @@ class Evening:
         try:
             while self.may_go_on():
                 bus, loco, v = draw.choice((1, 2)), draw.choice(LOCOMOTIVES), draw.choice([0, draw.randint(1, 28)])
-                with self.rails[bus].commanded(loco, v > 0, has_reply=False):
+                count = len(client.came.get("srcp/error", []))
+                with self.rails[bus].commanded(loco, v > 0, has_reply=False) as noted:
                     client.client.publish(f"srcp/{bus}/GL/{loco}/set", json.dumps({"v": v, "v_max": 28}))
-                    self.is_through(client, mark := (mark + 1) % 60000)
+                    is_through = self.is_through(client, mark := (mark + 1) % 60000)
+                refused = [json.loads(told)["topic"] for told in client.came.get("srcp/error", [])[count:]]
+                if not v and (not is_through or f"srcp/{bus}/GL/{loco}" in refused):  # another has it locked
+                    self.rails[bus].watch.refused(loco, noted)
         finally:
             client.close()
 
-    def is_through(self, client: test_mqtt.Client, mark: int) -> None:
-        """Waits until all is carried out that a client of the broker has sent, or mqtt.py is gone."""
+    def is_through(self, client: test_mqtt.Client, mark: int) -> bool:
+        """Waits until all is carried out that a client of the broker has sent. Returns false if mqtt.py is gone,
+        perhaps with the command."""
         client.client.publish(f"srcp/{NO_BUS}/GL/1/set", json.dumps({"v": mark, "v_max": 60000}))
         ends = time.monotonic() + HANG
         while time.monotonic() < ends and client.topics.get("srcp/online") != "offline":
             if any(f'"v\\": {mark},' in told for told in client.came.get("srcp/error", [])[-100:]):
-                return
+                return True
             time.sleep(PACE / 3)
+        return False
 
     def hand(self, draw: random.Random) -> None:
         """Throttles at the stations, and what happens there. They drive what the registry has, and at a Z21 nothing

@@ -1,6 +1,6 @@
 #!/usr/bin/env python3
-"""pages.py [--check]: writes what pages take from the code, each table between its two marks: the crates, by the first
-sentence of each, and the laws, by their names.
+"""pages.py [--check]: writes what pages take from the code, each table between its two marks: the crates, by
+crates.txt and the first sentence of each, and the laws, by their names.
 
 With --check it writes nothing. It prints each page that is not as the code has it, and ends with 1 if there is one.
 """
@@ -19,12 +19,24 @@ def first_sentence(file: Path) -> str:
     return " ".join(re.findall(r"^//! (.*)", file.read_text(), re.M)).partition(". ")[0].removesuffix(".")
 
 
+def stands_on(name: str, listed: dict[str, list[str]]) -> list[str]:
+    """Returns the crates that a crate is listed with, but for those on which another of them stands."""
+    def below(crate: str) -> set[str]:
+        return {lower for near in listed.get(crate, []) for lower in {near} | below(near)}
+
+    return [crate for crate in listed[name] if crate in listed and not any(crate in below(one) for one in listed[name])]
+
+
 def crates() -> str:
     """Returns the table of the crates of the program, from the lowest up."""
-    names = re.findall(r"^(\w+):", (TOP / "crates.txt").read_text().partition("\n#")[0], re.M)
-    heads = {name: next(file for file in (CRATES / name / "src").iterdir() if file.name in HEADS) for name in names}
-    rows = [f"| [`{name}`](../crates/{name}/README.md) | {first_sentence(head)} |" for name, head in heads.items()]
-    return "\n".join(["| Crate | What it has |", "|---|---|", *rows, ""])
+    rows = re.findall(r"^(\w+):(.*)", (TOP / "crates.txt").read_text().partition("\n#")[0], re.M)
+    listed = {name: words.split() for name, words in rows}
+    table = ["| Crate | Stands on | What it has |", "|---|---|---|"]
+    for name in listed:
+        head = next(file for file in (CRATES / name / "src").iterdir() if file.name in HEADS)
+        on = ", ".join(f"`{crate}`" for crate in stands_on(name, listed))
+        table.append(f"| [`{name}`](../crates/{name}/README.md) | {on} | {first_sentence(head)} |")
+    return "\n".join([*table, ""])
 
 
 def laws() -> str:

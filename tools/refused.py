@@ -1,5 +1,5 @@
 #!/usr/bin/env python3
-"""refused.py [--anew] [--minutes N] [NAME ..]: tries the wrong bodies of crates/NAME/refused/ and of
+"""refused.py [--anew] [--of-ci] [--minutes N] [NAME ..]: tries the wrong bodies of crates/NAME/refused/ and of
 crates/NAME/laws-refuse/, of these crates or of all.
 
 `rt ci` tries the edits of must-fail/, a check for each. These are tried many in one check: one of each function at a
@@ -7,6 +7,9 @@ time, since contracts stay, and each function has its own verdict. An edit count
 function that it changes. Else it is tried alone, and then the crate has to be refused, and not only by a text that
 cannot be read. An edit of laws-refuse/ changes a definition and its code together and is tried alone: the prover has to
 refuse a function of laws.rt.
+
+`rt lib` builds the libraries below a crate, over what earlier checks kept. With --of-ci they are those that `rt ci`
+proved: it gives what it has kept of exactly these sources, and proves the others from nothing.
 
 It works on a copy and changes nothing in the repository. RT_JOBS crates are tried beside each other (none: one). What
 passed is kept in the user's cache by the sum of all that its check read, and is not tried again; --anew tries all. It
@@ -96,10 +99,16 @@ class Repository:
     def folder(self, name: str) -> Path:
         return self.top / "crates" / name
 
+    def library(self, name: str) -> Path:
+        return self.folder(name) / "out" / "rlib" / f"{name}.rlib"
+
+    def uses(self, name: str) -> list[str]:
+        return self.lines[name].partition(":")[2].split()
+
     def below(self, name: str) -> list[str]:
         """Returns the crates that a crate stands on, lowest first."""
         found: list[str] = []
-        for dep in self.lines[name].partition(":")[2].split():
+        for dep in self.uses(name):
             if dep in self.lines:
                 found += [low for low in [*self.below(dep), dep] if low not in found]
         return found
@@ -124,21 +133,26 @@ def link_or_copy(one: str, other: str) -> None:
 
 
 def copy_of(repository: Repository, names: list[str], to: Path) -> Repository:
-    """Copies the sources of crates, and the libraries that were built of them. A library is never written into: `rt`
-    makes a new one."""
+    """Copies the sources of crates."""
     made = Repository(to, {name: repository.lines[name] for name in names})
+    to.mkdir(exist_ok=True)
     for name in names:
         for part in FOLDERS:
             if (repository.folder(name) / part).is_dir():
                 shutil.copytree(repository.folder(name) / part, made.folder(name) / part)
         made.folder(name).mkdir(parents=True, exist_ok=True)
-        library = made.folder(name) / "out" / "rlib"
-        try:
-            shutil.copytree(repository.folder(name) / "out" / "rlib", library, copy_function=link_or_copy)
-        except (OSError, shutil.Error):  # there is none, or it is built anew meanwhile: then it is built here too
-            shutil.rmtree(library, ignore_errors=True)
     repository.write_lines(names, to)
     return made
+
+
+def copy_libraries(repository: Repository, to: Repository) -> None:
+    """Copies the libraries that `rt lib` built. A library is never written into: `rt` makes a new one."""
+    for name in to.lines:
+        built, library = repository.library(name).parent, to.library(name).parent
+        try:
+            shutil.copytree(built, library, copy_function=link_or_copy)
+        except (OSError, shutil.Error):  # there is none, or it is built anew meanwhile: then it is built here too
+            shutil.rmtree(library, ignore_errors=True)
 
 
 def texts_of(crate: Path) -> Texts:
@@ -207,20 +221,13 @@ class Tally:
     faults: list[tuple[str, str]] = field(default_factory=list)
 
     def line(self, name: str) -> str:
-        words = [f"{name}: {self.refused} refused"]
-        if self.kept:
-            words.append(f", {self.kept} of them by an earlier run")
-        if self.by_text:
-            words.append(f", {self.by_text} of them only by the text of a proof")
-        if self.faults:
-            words.append(f", {len(self.faults)} failed")
-        if self.untried:
-            words.append(f", {self.untried} not tried")
+        words = [(self.kept, f"{self.kept} of them by an earlier run"),
+                 (self.by_text, f"{self.by_text} of them only by the text of a proof"),
+                 (len(self.faults), f"{len(self.faults)} failed"), (self.untried, f"{self.untried} not tried")]
+        told = ", ".join([f"{name}: {self.refused} refused", *(text for count, text in words if count)])
         if self.checks:
-            words.append(f" in {self.checks} check{'s' if self.checks > 1 else ''}, {self.alone} alone")
-        if self.seconds:
-            words.append(f", {self.seconds / 60:.1f} processor minutes")
-        return "".join(words)
+            told += f" in {self.checks} check{'s' if self.checks > 1 else ''}, {self.alone} alone"
+        return told + (f", {self.seconds / 60:.1f} processor minutes" if self.seconds else "")
 
 
 @dataclass
@@ -229,6 +236,7 @@ class Room:
     name: str
     folder: Path
     texts: Texts
+    words: list[str]  # of a check
     kept: Kept
     tally: Tally
     end: float  # of the monotonic clock, from which on no check begins
@@ -245,9 +253,9 @@ class Room:
         try:
             for file in edited:
                 (self.folder / file).write_text(texts[file])
-            ran = run(["rt", "check", "--jobs", "1"], self.folder)
+            ran = run(self.words, self.folder)
             if ran.status == -signal.SIGKILL:  # most likely for want of memory
-                ran = run(["rt", "check", "--jobs", "1"], self.folder)
+                ran = run(self.words, self.folder)
         finally:
             for file in edited:
                 (self.folder / file).write_text(self.texts[file])
@@ -335,31 +343,61 @@ def try_plan(room: Room, plan: Plan) -> None:
             try_together(room, edits)
 
 
-def build_below(repository: Repository, name: str) -> str:
-    """Builds the libraries that a crate uses, where they are not built. Returns why that failed, or nothing."""
+@dataclass(frozen=True)
+class Proved:
+    """What `rt ci` proved: each library with what crates above it can cite, and without proofs. `rt check` takes no
+    such library, but the prover does: `rt ci` checks its own edits over them, with these words."""
+    kit: Path
+    libraries: Repository
+
+    def check(self, repository: Repository, name: str) -> list[str]:
+        root = next(file for file in ("src/lib.rt", "src/main.rt") if (repository.folder(name) / file).exists())
+        words = [str(self.kit / "bin" / "rattle"), "check", "--crate-name", name, root, "--jobs", "1"]
+        for dep in ["std", *repository.uses(name)]:
+            library = self.libraries.library(dep) if dep in repository.lines else self.kit / "rlibs" / f"{dep}.rlib"
+            words += ["--extern", f"{dep}={library}"]
+        for folder in (self.kit / "rlibs", *(self.libraries.library(dep).parent for dep in repository.below(name))):
+            words += ["-L", f"dependency={folder}"]
+        return [*words, "--antt-project", str(self.kit / "rattle" / "logic" / "antt-project.json"),
+                "--logic-built", str(self.kit / "logic_built"), "--incremental", "out/incremental"]
+
+
+def proved_below(repository: Repository, names: list[str]) -> Proved | Fault:
+    """Has `rt ci` prove the libraries below these crates, in a copy without edits, or give what it has kept of them."""
+    below = {dep for name in names for dep in repository.below(name)}
+    copy = copy_of(repository, [name for name in repository.lines if name in below], repository.top / "proved")
+    if below and (ran := run(["rt", "ci"], copy.top)).status:
+        return Fault(f"rt ci: {(ran.out.splitlines() or [''])[-1][:200]}")
+    return Proved(Path(run(["rt", "doc"], repository.top).out.strip()).parent, copy)
+
+
+def build_below(repository: Repository, name: str) -> list[str] | Fault:
+    """Builds the libraries that a crate uses, where they are not built. Returns the words of a check over them."""
     for dep in repository.below(name):
         ran = run(["rt", "lib", "--jobs", "1"], repository.folder(dep))
         if ran.status:
-            return f"{dep} is not built: {(ran.out.splitlines() or [''])[-1][:200]}"
-    return ""
+            return Fault(f"{dep} is not built: {(ran.out.splitlines() or [''])[-1][:200]}")
+    return ["rt", "check", "--jobs", "1"]
 
 
 @dataclass(frozen=True)
 class Wanted:
     is_anew: bool  # also what an earlier run passed
+    is_of_ci: bool  # the libraries are those of `rt ci`
     end: float  # of the monotonic clock, from which on no check begins
 
 
-def try_crate(repository: Repository, name: str, kept: Kept, wanted: Wanted) -> Tally:
+def untried(repository: Repository, name: str, kept: Kept, wanted: Wanted) -> list[Edit]:
+    """Returns the edits of a crate that no earlier run passed."""
+    edits = [found for found in read_edits(repository.folder(name)) if not isinstance(found, tuple)]
+    return [edit for edit in edits if wanted.is_anew or not kept.has(edit)]
+
+
+def try_crate(repository: Repository, name: str, proved: Proved | Fault | None, kept: Kept, wanted: Wanted) -> Tally:
     """Tries the edits of a crate that no earlier run passed."""
-    tally, edits = Tally(), []
-    for found in read_edits(repository.folder(name)):
-        if isinstance(found, tuple):
-            tally.faults.append((found[0], found[1].why))
-        elif not wanted.is_anew and kept.has(found):
-            tally.refused, tally.kept = tally.refused + 1, tally.kept + 1
-        else:
-            edits.append(found)
+    tally, edits, found = Tally(), untried(repository, name, kept, wanted), read_edits(repository.folder(name))
+    tally.faults += [(file[0], file[1].why) for file in found if isinstance(file, tuple)]
+    tally.refused = tally.kept = len(found) - len(edits) - len(tally.faults)
     plan = plan_of(name, edits, texts_of(repository.folder(name)))
     tally.faults += [(edit.name, fault.why) for edit, fault in plan.faults]
     if not plan.batches and not plan.alone:
@@ -367,12 +405,15 @@ def try_crate(repository: Repository, name: str, kept: Kept, wanted: Wanted) -> 
     if time.monotonic() >= wanted.end:
         tally.untried = len(edits) - len(plan.faults)
         return tally
-    if why := build_below(repository, name):
-        tally.faults.append(("the crates below", why))
+    words = proved.check(repository, name) if isinstance(proved, Proved) else proved or build_below(repository, name)
+    if isinstance(words, Fault):
+        tally.faults.append(("the crates below", words.why))
         return tally
     with tempfile.TemporaryDirectory(dir=repository.top, prefix=f"{name}-") as top:
         copy = copy_of(repository, [*repository.below(name), name], Path(top))
-        try_plan(Room(name, copy.folder(name), texts_of(copy.folder(name)), kept, tally, wanted.end), plan)
+        if not proved:
+            copy_libraries(repository, copy)
+        try_plan(Room(name, copy.folder(name), texts_of(copy.folder(name)), words, kept, tally, wanted.end), plan)
     return tally
 
 
@@ -385,7 +426,9 @@ def snapshot() -> Iterator[Repository]:
             shutil.rmtree(left, ignore_errors=True)
     with tempfile.TemporaryDirectory(prefix=f"{ROOMS}{os.getpid()}-", ignore_cleanup_errors=True) as top:
         here = Repository(TOP, lines_of(TOP))
-        yield copy_of(here, [name for name in here.lines if here.folder(name).is_dir()], Path(top))
+        copy = copy_of(here, [name for name in here.lines if here.folder(name).is_dir()], Path(top))
+        copy_libraries(here, copy)
+        yield copy
 
 
 def report(name: str, tally: Tally) -> None:
@@ -400,10 +443,13 @@ def try_crates(repository: Repository, names: list[str], wanted: Wanted) -> list
     if kit.status:
         sys.exit(f"refused.py: rt version: {kit.out.strip()}")
     names = sorted(names, key=lambda name: -len(read_edits(repository.folder(name))))
+    kept = {name: Kept(cache(), state_of(repository, name, kit.out)) for name in names}
+    left = [name for name in names if untried(repository, name, kept[name], wanted)]
+    proved = proved_below(repository, left) if wanted.is_of_ci and left else None
 
     def tried(name: str) -> Tally | None:
         with suppress(Stopped):
-            tally = try_crate(repository, name, Kept(cache(), state_of(repository, name, kit.out)), wanted)
+            tally = try_crate(repository, name, proved, kept[name], wanted)
             report(name, tally)
             return tally
         return None
@@ -415,6 +461,7 @@ def try_crates(repository: Repository, names: list[str], wanted: Wanted) -> list
 def main() -> int:
     parser = argparse.ArgumentParser(description=(__doc__ or "").partition("\n\n")[0].partition(": ")[2])
     parser.add_argument("--anew", action="store_true", help="also what an earlier run passed")
+    parser.add_argument("--of-ci", action="store_true", help="take the libraries that rt ci proved")
     parser.add_argument("--minutes", type=float, metavar="N", default=math.inf, help="begin no check after N minutes")
     parser.add_argument("names", nargs="*", metavar="NAME", help="a crate, as crates.txt has it")
     words = parser.parse_args()
@@ -424,7 +471,7 @@ def main() -> int:
         parser.error(f"no crate of crates.txt: {', '.join(unknown)}")
     with snapshot() as repository:
         names = words.names or [name for name in repository.lines if read_edits(repository.folder(name))]
-        tallies = try_crates(repository, names, Wanted(words.anew, time.monotonic() + 60 * words.minutes))
+        tallies = try_crates(repository, names, Wanted(words.anew, words.of_ci, time.monotonic() + 60 * words.minutes))
     drop_old(cache())
     failed, untried = sum(len(tally.faults) for tally in tallies), sum(tally.untried for tally in tallies)
     said = f"{sum(tally.refused for tally in tallies)} refused, {failed} failed"

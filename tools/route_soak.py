@@ -26,6 +26,8 @@ PACE = 0.005
 TROUBLE = 6.0
 THROTTLES = 3
 READY = f"none of {ROUTES} routes is set"
+# At three turnouts a second the throttles give nearly each route back before the box sets the route.
+TURNOUT_PACES = 3, 100, 1000
 
 
 def plan_of(draw: random.Random) -> str:
@@ -151,7 +153,8 @@ class Soak:
         self.begin()
 
     def begin(self) -> None:
-        self.box = common.program("box.py", "--plan", self.path, "--program", self.program, "--port", self.way.port)
+        self.box = common.program("box.py", "--plan", self.path, "--program", self.program, "--port", self.way.port,
+                                  "--turnout-pace", self.draw.choice(TURNOUT_PACES))
         self.is_ready(0)
 
     def is_ready(self, before: int) -> None:

@@ -8,10 +8,12 @@ GREATEST_FB = 4096  # address of a sensor
 MOST_PORTS = 8  # ports of an accessory
 MOST_FUNCTIONS = 29  # functions of a locomotive
 LONGEST_READ = 1000  # bytes of a line that it reads
+LONGEST_DELAY = 600  # seconds for which a route keeps its locks before a train, at most
 
 # ---- what is made and thrown
 TOP = 126  # steps of a locomotive that is made here, and of the speeds that a DCC-EX station is told
 PULSE = 250  # milliseconds for which the port of a turnout is on
+SECOND = 1.0  # seconds until the signal box is told that a second has passed
 TURNOUT_PACE = 3.0  # turnouts a second that a station throws, if not told otherwise
 STOPS = 2  # port of a route's accessory that stops its signal
 

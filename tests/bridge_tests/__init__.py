@@ -51,7 +51,9 @@ def cases_of(*kinds):
     return tuple(case_of(kind, method) for kind in kinds for method in names(kind))
 
 
+from .test_answers import OfAnswers  # noqa: E402
 from .test_box import Box  # noqa: E402
+from .test_box_approach import BoxOfAnApproach  # noqa: E402
 from .test_box_hands import BoxWithHands  # noqa: E402
 from .test_box_sections import BoxOfSections  # noqa: E402
 from .test_box_tracks import BoxOfTracks  # noqa: E402
@@ -101,11 +103,11 @@ BRIDGE_CASES = cases_of(Readme, Following, MqttWithAWrongBroker, Stopping, Mqtt,
                         Entering, WiThrottle, WiThrottleStops, WiThrottleWithBeats, WiThrottleWithRoutes, Srcpd,
                         SrcpdWithADriver, DccEx, DccExWithLosses, DccExWithHands, HandsBeforeRows, HandsBeforeStops,
                         Z21, Z21WithLosses, Z21WithHands, DccExWithPrograms, Z21WithPrograms, Programming, Doctor,
-                        Guard, Keep, Box, BoxWithHands, BoxOfSections, BoxOfTracks, Log, Parsing, Plans, PlanInChromium,
-                        LargePlanInChromium, PlanInGerman, SignalsInChromium,
+                        Guard, Keep, Box, BoxWithHands, BoxOfSections, BoxOfAnApproach, BoxOfTracks, Log, Parsing,
+                        Plans, PlanInChromium, LargePlanInChromium, PlanInGerman, SignalsInChromium,
                         WebBesideADriver, Simulated, SimulatedDccEx, SimulatedZ21, WhatMoves, Watching, DccEx4,
                         DccEx52, Z21WithDoubles, DccExStopAll, Z21StopAll, DccExLastWords, Z21LastWords, Speaking,
-                        OfStopAll, Ends, DriverThatEnds, ServerThatIsLeft, WebOfOtherFiles, WebThatIsUpgraded, Driving,
-                        WebWithoutAScript, WebWithForms, Z21WithShuffles, DccExTelling, Z21Telling, OfAwaited,
-                        Elsewhere, WebWithADriverThatSleeps, DccEx5, DccExAtAMega, DccExWithLostCommands,
-                        DccExWithTurnedBits, Z21Start, OfDccEx)
+                        OfAnswers, OfStopAll, Ends, DriverThatEnds, ServerThatIsLeft, WebOfOtherFiles,
+                        WebThatIsUpgraded, Driving, WebWithoutAScript, WebWithForms, Z21WithShuffles, DccExTelling,
+                        Z21Telling, OfAwaited, Elsewhere, WebWithADriverThatSleeps, DccEx5, DccExAtAMega,
+                        DccExWithLostCommands, DccExWithTurnedBits, Z21Start, OfDccEx)

@@ -14,26 +14,14 @@ import time
 import unittest
 from pathlib import Path
 
-from serving import Client, comes_again
+from serving import Client, comes_again, layout_bus
 
 TOP = Path(__file__).resolve().parent.parent.parent
 PROGRAMS = Path(os.environ.get("SRCP_PROGRAMS", TOP / "bridges"))
 SERVER: str | None = None  # the built program; the case that runs sets it
 PACKAGES = "/usr/lib/python3/dist-packages"  # where Debian has paho, which another python3 does not look through
-LAYOUT = """port = {port}
-[[bus]]
-number = 1
-groups = ["POWER", "GL", "GA", "FB"]
-gl_max = 10239
-ga_max = 2044
-fb_ports = 32
-[[bus]]
-number = 2
-groups = ["GA", "FB"]
-ga_max = 12
-ga_ports = 4
-fb_ports = 16
-"""
+LAYOUT = ("port = {port}\n" + layout_bus(1, "POWER GL GA FB", gl_max=10239, ga_max=2044, fb_ports=32)
+          + layout_bus(2, "GA FB", ga_max=12, ga_ports=4, fb_ports=16))
 EXAMPLE_PLAN = TOP / "examples" / "plan.toml"
 WAIT = 60.0  # seconds that a busy machine may take
 folder = tempfile.TemporaryDirectory()  # gone at the end, with all that the tests write

@@ -2,6 +2,7 @@
 
 The log of a simulated station has what changed the track in the words of DCC-EX, and its cabs have 126 steps.
 """
+import itertools
 import os
 import re
 import signal
@@ -166,12 +167,15 @@ class Drives(StationCase):
         self.assertEqual(self.commands("a ")[-1], "a 5 1")
 
     def test_an_emergency_stop_reaches_the_station_though_another_row_follows(self):
+        """What it confirms late is told again, also as it drives."""
         for n in range(20):
             self.throttle.order("SET 1 GL 3 0 14 28")
             self.track(lambda s: self.commands("t 3")[-1] == "t 3 63 0", "it drives")
             begun = len(self.station.log)
             self.throttle.flood(["SET 1 GL 3 2 0 28", "SET 1 GL 3 0 0 28"])
-            self.track(lambda s: self.commands("t ", begun) == ["t 3 -1 0", "t 3 0 0"], "a stop, and 0")
+            self.track(lambda s: self.commands("t ", begun)[-1] == "t 3 0 0", "it stands")
+            told = [text for text, _ in itertools.groupby(self.commands("t ", begun))]
+            self.assertEqual(told[told[:1] == ["t 3 63 0"]:], ["t 3 -1 0", "t 3 0 0"])
 
     def test_many_emergency_stops_stop_nobody_else(self):
         """They are no STOP ALL: each is told by itself."""

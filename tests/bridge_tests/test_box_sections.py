@@ -6,16 +6,16 @@ from pathlib import Path
 from .common import Case, new_folder, plan_of_two_buses, position_of, rows
 from .test_box import GIVES_BACK, SETS, Box
 
-SECTIONS = {5: "[[1, 7], [1, 5], [2, 8]]", 6: "[[1, 7], [1, 6], [1, 3]]"}  # the last one of route 2 is its block
+SECTIONS = {5: "[[1, 7], [1, 5], [2, 8]]", 6: "[[1, 7], [1, 6], [2, 3]]"}  # the last one of route 2 is its block
 
 
 def plan_of_sections():
-    """Writes the plan of the other cases with sections in place of the sensors that free routes 1 and 2. The other two
-    have no device of bus 1 but their turnout, so they are set also if the sensors of bus 1 are not known."""
+    """Writes the plan of the other cases with sections in place of the sensors that free routes 1 and 2. Of bus 1 they
+    have sensors of sections alone. The other two routes are set also if the sensors of bus 1 are not known."""
     text = re.sub(r"frees = \[1, ([56])\]", lambda found: f"sections = {SECTIONS[int(found[1])]}",
                   plan_of_two_buses().read_text())
     path = Path(new_folder(), "plan.toml")
-    path.write_text(re.sub(r"(blocks|frees) = (\[*)1, 4", r"\1 = \g<2>2, 4", text))
+    path.write_text(re.sub(r"(blocks|frees) = (\[*)1, ", r"\1 = \g<2>2, ", text))
     return path
 
 
@@ -34,8 +34,8 @@ class BoxOfSections(Case):
         return panel
 
     def tell(self, *told):
-        """Has sensors tell what they are: 8 is that of bus 2, and the others are of bus 1."""
-        self.throttle.order(*[f"SET {1 + (sensor == 8)} FB {sensor} {value}" for sensor, value in told])
+        """Has sensors tell what they are: 3 and 8 are those of bus 2, and the others are of bus 1."""
+        self.throttle.order(*[f"SET {1 + (sensor in (3, 8))} FB {sensor} {value}" for sensor, value in told])
 
     def stays(self, panel, *told, route=1):
         """Sensors tell this, and the route keeps its lock. Route 3, which is set and given back then, is the later one
@@ -78,7 +78,7 @@ class BoxOfSections(Case):
         self.hears(panel, *GIVES_BACK, "100 INFO 3 FB 2 1")
         self.ask(1)
         self.stays(panel, (7, 1), (6, 1), (7, 0), (3, 1), route=2)
-        self.told("-- route 2: its signal is stopped, sensor 1 3 is occupied\n")
+        self.told("-- route 2: its signal is stopped, sensor 2 3 is occupied\n")
         self.tell((6, 0))
         self.hears(panel, "100 INFO 3 FB 2 0", *SETS)
         self.lies_back(2)

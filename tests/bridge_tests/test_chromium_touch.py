@@ -16,14 +16,22 @@ FINGER = """((slider, moves) => {
 
 
 class WebByTouch(ChromiumCase):
+    def slider(self, address: int) -> str:
+        """Returns the slider of a locomotive, as an expression of the page's language."""
+        return f"{self.card(f'1 GL {address}')}.querySelector('input')"
+
+    def opens_on_a_phone(self, *names: str) -> None:
+        """Opens the page as a phone shows it, with the cards of these devices."""
+        self.browser.shows(390, 844, phone=True)
+        self.opens(*names)
+
     def test_in_chromium_fingers(self):
         """Swipes that begin on a slider scroll, and taps on it do nothing. A finger that moves sideways, or was held,
         drives by as much as it moves; and one that the browser takes away leaves no train faster."""
         self.drives(GL3=(1, 0), GL4=(1, 0), GL5=(1, 14))
         self.throttle.flood([f"INIT 1 GA {n} N" for n in range(1, 60)])
-        self.browser.shows(390, 844, phone=True)
-        self.opens("1 GL 3", "1 GL 5", "1 GA 59")
-        touched = f"{self.card('1 GL 3')}.querySelector('input')"
+        self.opens_on_a_phone("1 GL 3", "1 GL 5", "1 GA 59")
+        touched = self.slider(3)
         was = [row for row in rows(self.server.port) if " GL " in row]
         for across in (0.1, 0.3, 0.6, 0.9):
             self.js("scrollTo(0, 0)")
@@ -37,10 +45,10 @@ class WebByTouch(ChromiumCase):
         self.assertEqual([row for row in rows(self.server.port) if " GL " in row], was)
         self.drags_by_touch(touched, 0.9, 60)
         until(lambda: 3 <= self.speed(3) <= 9, "from standing a finger drives by as much as it moves")
-        x, y = self.browser.place(f"{self.card('1 GL 4')}.querySelector('input')", 0.9)
+        x, y = self.browser.place(self.slider(4), 0.9)
         self.browser.touches((x, y), (x, y), (x - 4, y), (x + 9, y), (x + 9, y), pause=0.6)
         self.assertLess(self.speed(4), 3)
-        fast = f"{self.card('1 GL 5')}.querySelector('input')"
+        fast = self.slider(5)
         self.drags_by_touch(fast, 0.5, 60, taken_away=True)
         self.has("100 INFO 1 GL 5 1 14 28")
         self.drags_by_touch(fast, 0.5, -60, taken_away=True)
@@ -53,9 +61,8 @@ class WebByTouch(ChromiumCase):
     def test_in_chromium_fingers_that_drift(self):
         """A page may be told of several moves before its browser scrolls: neither those of a swipe nor a tap drive."""
         self.drives(GL3=(1, 0))
-        self.browser.shows(390, 844, phone=True)
-        self.opens("1 GL 3")
-        slider = f"{self.card('1 GL 3')}.querySelector('input')"
+        self.opens_on_a_phone("1 GL 3")
+        slider = self.slider(3)
         until(lambda: not self.js(f"{slider}.disabled"), "its slider takes a value")
         for moves in [[1, 0], [9, 0]], [[10, -40], [40, -90], [80, -160]]:
             self.assertEqual(self.js(f"{FINGER}({slider}, {moves})"), 0, moves)
@@ -66,9 +73,8 @@ class WebByTouch(ChromiumCase):
         """They pinch, and drive nothing: nor does the one of them that stays. One that comes to a finger that drives
         leaves the train no faster. On two sliders each finger drives, and so does the next one on the first."""
         self.drives(GL3=(1, 0), GL4=(1, 0), GL5=(1, 14))
-        self.browser.shows(390, 844, phone=True)
-        self.opens("1 GL 3", "1 GL 4", "1 GL 5")
-        sliders = {address: f"{self.card(f'1 GL {address}')}.querySelector('input')" for address in (3, 4, 5)}
+        self.opens_on_a_phone("1 GL 3", "1 GL 4", "1 GL 5")
+        sliders = {address: self.slider(address) for address in (3, 4, 5)}
 
         def touches(kind, *points):
             points = [{"x": x, "y": y, "id": number} for number, x, y in points]
@@ -108,9 +114,8 @@ class WebByTouch(ChromiumCase):
     def test_in_chromium_a_finger_beside_another_throttle(self):
         """One that the browser takes away leaves the train no faster than the other has it drive."""
         self.drives(GL5=(1, 14))
-        self.browser.shows(390, 844, phone=True)
-        self.opens("1 GL 5")
-        slider = f"{self.card('1 GL 5')}.querySelector('input')"
+        self.opens_on_a_phone("1 GL 5")
+        slider = self.slider(5)
 
         def slows(x, y):
             time.sleep(0.5)

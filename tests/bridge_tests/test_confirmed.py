@@ -270,6 +270,37 @@ class OfDccEx(unittest.IsolatedAsyncioTestCase):
         told.append(self.station.command(self.cab, (61, 1)))
         self.assertEqual(told, [b"<t 3 60 1>\n<t 3>\n", b"<t 3 61 1>\n", b"<t 3 61 1>\n<t 3>\n"])
 
+    async def test_an_echo_of_the_power_is_no_button_however_late_it_is(self):
+        """This program slept, and its last words have taken the power off. A button is one."""
+        self.station.ready.set()
+        due = []
+        for told in (1, 0):
+            self.station.telling(("power",), told)
+            self.now += 100
+            self.station.take(b"<p1>")
+            due.append([*self.station.bus.orders.due])
+            self.station.confirm(("power",), 0)
+            self.station.take(b"<p0>"), self.station.take(b"<p1>")
+            due.append([*self.station.bus.orders.due])
+            self.station.bus.orders.due.clear()
+        self.assertEqual(due, [[], [("power",)]] * 2)
+
+    async def test_a_speed_of_0_behind_an_emergency_stop_that_is_late(self):
+        """The stop is to be told again, and its report comes just then: what was commanded behind it is told."""
+        told, bus = [], self.station.bus
+        self.station.line = types.SimpleNamespace(write=told.append)
+        self.station.ready.set()
+        bus.mirror.here, bus.mirror.anew, bus.holds.station = True, False, True
+        bus.mirror.take("1.000 101 INFO 1 GL 3 N 1 28 0")
+        for row in "0 0 28", "0 14 28", "2 0 28", "0 0 28":
+            bus.mirror.take(f"1.000 100 INFO 1 GL 3 {row}")
+            self.station.tell_one()
+        self.now += 1
+        self.station.tell_again()
+        self.station.take(b"<l 3 0 1 0>")
+        self.station.tell_one()
+        self.assertEqual(told, [b"<t 3 63 0>\n", b"<t 3 -1 0>\n", b"<t 3 0 0>\n<t 3>\n"])
+
     async def test_it_is_told_twice_to_stop_all_as_it_begins(self):
         """The line may lose one, and no driver would see what drives on that the registry does not have."""
         told = []

@@ -209,7 +209,7 @@ class DccEx(Drives, DccExCase):
                       ["--station", "/dev/null"]]:
             command = [sys.executable, PROGRAMS / "dcc_ex.py", "--port", str(self.server.port), *words]
             ran = subprocess.run(command, capture_output=True, text=True, timeout=WAIT)
-            told = [line for line in ran.stderr.splitlines() if not re.match("-- (server|station): ", line)]
+            told = [line for line in ran.stderr.splitlines() if not re.match("-- (server|station|not driven): ", line)]
             self.assertEqual((ran.returncode, len(told)), (2, 1), (words, ran.stderr))
 
 

@@ -178,6 +178,15 @@ class Stopping(MqttCase):
             self.throttle.order("SET 1 GL 3 0 9 28")
             self.knows(v=9)
 
+    def test_a_stop_of_all_that_no_driver_confirms_is_told(self):
+        """The bus has had a driver, and it says nothing."""
+        self.throttle.order("SET 1 POWER OFF no driver", "SET 1 POWER ON", "SET 1 GL 3 0 5 28 0 0")
+        self.knows(v=5)
+        self.client.client.publish("srcp/stop/set", "", qos=1)
+        self.has("100 INFO 1 POWER ON stop all", "100 INFO 1 GL 3 0 0 28")
+        until(lambda: self.errors(), "it is told")
+        self.assertEqual([error["reply"] for error in self.errors()], ["1 POWER: not confirmed: trains may drive"])
+
     def test_what_is_not_done_is_told(self):
         other = self.throttle
         other.order("INIT 1 GL 4 N 1 28 2", "SET 1 LOCK GL 4 0")

@@ -4,6 +4,12 @@ import unittest
 
 from .common import TOP
 
+
+def route(number: int, name: str, begin: str, end: str, turnouts: list[list[int]]) -> str:
+    """Returns a route of a plan."""
+    return f'\n[[route]]\nnumber = {number}\nname = "{name}"\nfrom = "{begin}"\nto = "{end}"\nturnouts = {turnouts}\n'
+
+
 PLAN = r"""bus = 3
 plan = '''
 W==b1==s1==t1===b2=====t2==E
@@ -26,21 +32,8 @@ t2 = { turnout = [1, 2, 0] }
 
 [functions]
 "1 GL 3" = ["Light", "Whistle"]
-
-[[route]]
-number = 1
-name = "Straight on"
-from = "W"
-to = "E"
-turnouts = [[1, 1, 0], [1, 2, 1]]
-
-[[route]]
-number = 2
-name = "Back by the loop"
-from = "E"
-to = "W"
-turnouts = [[1, 1, 1], [1, 2, 0]]
-"""
+""" + "".join([route(1, "Straight on", "W", "E", [[1, 1, 0], [1, 2, 1]]),
+                 route(2, "Back by the loop", "E", "W", [[1, 1, 1], [1, 2, 0]])])
 FAULTS = [  # the text, what stands in its place, and the fault
     ("W==b1", "W=?b1", "line 3: '?' in column 3 is neither track nor a name"),
     ("b1==s1", "b1==s9", "line 3: s9 in column 8 is not in the legend"),
@@ -86,6 +79,11 @@ FAULTS = [  # the text, what stands in its place, and the fault
     ("number = 2", "number = 2\nsections = [1, 1]", "line 33: the sections of a route are a list of [bus, sensor]"),
     ("number = 2", "number = 2\nsections = [[1, 1], [1, 4097]]", "line 33: the sections of a route are a list of"),
     ("number = 2", "number = 2\nsections = [[1, 1], [3, 1]]", "line 33: the sections of a route are on other buses"),
+    ("number = 2", "number = 2\napproach = [[3, 1]]", "line 33: the sensors of the approach of a route are"),
+    ("number = 2", "number = 2\napproach = [[1, 4097]]", "line 33: the sensors of the approach of a"),
+    ("number = 2", "number = 2\ndelay = 601", "line 33: the delay of a route is 1 to 600 seconds"),
+    ("number = 2", "number = 2\ndelay = 0", "line 33: the delay of a route is 1 to 600 seconds"),
+    ("number = 2", "number = 2\ndelay = true", "line 33: the delay of a route is 1 to 600 seconds"),
     ("bus = 3\n", "bus = 3\nroutes = 4\n", "line 2: routes is no key of a plan: bus, plan, legend, names,"),
     ("bus = 3\n", "bus = 3\nbus = 3\n", "Cannot overwrite a value (at line 2, column 8)"),
 ]

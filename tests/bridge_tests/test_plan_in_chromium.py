@@ -5,29 +5,12 @@ from itertools import combinations
 from pathlib import Path
 
 from .browser import HELD, started
-from .common import Session, new_folder, plan_of_two_buses, rows, until
+from .common import Session, layout_bus, new_folder, plan_of_two_buses, rows, until
 from .test_chromium import SMALL, ChromiumCase
 
-LAYOUT = """port = {port}
-[[bus]]
-number = 1
-groups = ["POWER", "GL", "GA", "FB"]
-gl_max = 99
-ga_max = 64
-fb_ports = 64
-[[bus]]
-number = 2
-groups = ["GA", "FB"]
-ga_max = 64
-ga_ports = 4
-fb_ports = 16
-[[bus]]
-number = 3
-groups = ["GA", "FB"]
-ga_max = 32
-ga_ports = 3
-fb_ports = 32
-"""
+LAYOUT = ("port = {port}\n" + layout_bus(1, "POWER GL GA FB", gl_max=99, ga_max=64, fb_ports=64)
+          + layout_bus(2, "GA FB", ga_max=64, ga_ports=4, fb_ports=16)
+          + layout_bus(3, "GA FB", ga_max=32, ga_ports=3, fb_ports=32))
 
 
 class PlanCase(ChromiumCase):

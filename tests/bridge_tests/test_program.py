@@ -265,6 +265,35 @@ class Z21WithPrograms(Programs, Z21Case):
         self.assertEqual((self.station.decoder[3], self.told()), (20, ["W 3 20"]))
 
 
+    def test_program_finds_no_decoder_though_datagrams_are_lost(self):
+        """A question; or all but the last of the five answers that its time has room for, and what comes behind may be
+        one of these, late."""
+        self.may()
+        self.station.loses, self.station.decoder = 0, {}
+        for loses, count in ((self.loses_questions, 1), (self.loses_answers, 4)):
+            lost = loses(count)
+            out, wrong, status = self.programs("read", 1)
+            self.assertEqual((out, wrong, status), ("", "CV 1: no decoder answers\n", 1))
+            self.assertEqual(len(lost), count)
+            self.assertEqual(self.asks("READ 8"), ["416 no decoder answers"])
+            self.station.decoder = {8: 13}
+            self.assertEqual(self.asks("READ 8", "READ 1"), ["200 13", "416 no decoder answers"])
+            self.station.decoder = {}
+
+    def loses_questions(self, count):
+        """Has the line lose so many commands for CVs; returns those that it has lost."""
+        take, lost = type(self.station).take_cv.__get__(self.station), []
+        self.station.take_cv = lambda *asked: lost.append(asked) if len(lost) < count else take(*asked)
+        return lost
+
+    def loses_answers(self, count):
+        """Has the line lose so many of the answers that name no CV."""
+        say, lost = type(self.station).say_bus.__get__(self.station), []
+        self.station.say_bus = lambda client, *data: (
+            lost.append(data) if data == (0x61, 0x13) and len(lost) < count else say(client, *data))
+        return lost
+
+
 class Programming(unittest.TestCase):
     """What a driver makes of what its station says, without one."""
     program = "programming"

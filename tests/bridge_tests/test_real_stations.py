@@ -124,11 +124,15 @@ class DccExWithLostCommands(Drives, Losses, LosesAll, DccExCase):
     test_turnouts_and_sensors = test_a_turnout_lies_as_the_port_that_was_set_last = None
 
     def test_an_emergency_stop_of_one(self):
-        for _ in range(25):
+        """It is made though its command is lost, also if a 0 follows at once, by which a train brakes slowly."""
+        self.station.loses = 0.4
+        for _ in range(15):
             self.throttle.order("SET 1 GL 3 1 14 28")
             self.track(lambda s: s.cabs[3] == (63, 1), "it drives", 5)
-            self.throttle.order("SET 1 GL 3 2 0 28")
-            self.track(lambda s: s.cabs[3][0] < 1, "it stands", 5)
+            begun = len(self.station.log)
+            self.throttle.order("SET 1 GL 3 2 0 28", "SET 1 GL 3 1 0 28")
+            self.track(lambda s: self.commands("t 3 -1", begun), "it makes the stop", 5)
+            self.track(lambda s: s.cabs[3] == (0, 1), "it stands", 5)
 
 
 class DccExWithTurnedBits(InTheEnd, DccExCase):

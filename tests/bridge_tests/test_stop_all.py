@@ -237,6 +237,19 @@ class StopAll(StationCase):
         phone.send("M0A*<;>V0", "M0A*<;>V41")
         self.track(lambda s: s.cabs[3][0] > 0, "it drives")
 
+    def test_answers_that_are_lost(self):
+        """The station has stopped all, and its word for that is lost again and again: the driver asks once more. It
+        would not ask by itself here. Once a train drives, and once there is none."""
+        self.restarts("--silence", 1000)
+        for commands in (["SET 1 POWER ON"], ["TERM 1 GL 3", "SET 1 POWER ON"]):
+            self.throttle.order(*commands)
+            self.settles()
+            time.sleep(QUIET)  # the station is asked nothing more
+            self.answers_in_vain(4)
+            self.throttle.order("SET 1 POWER ON stop all")
+            until(lambda: "100 INFO 1 POWER ON all stood" in rows(self.server.port), "the driver confirms it", 20)
+            self.track(lambda s: s.cabs[3][0] <= 0, "it stands")
+
     def hangs(self):
         self.station.stalled = not self.station.stalled
 
@@ -244,9 +257,20 @@ class StopAll(StationCase):
 class DccExStopAll(StopAll, DccExCase):
     stopped_by_hand = "ON"
 
+    def answers_in_vain(self, times):
+        answer, lost = type(self.station).answer.__get__(self.station), []
+        self.station.answer = lambda name, *words: (
+            lost.append(name) if name == "cabs" and len(lost) < times else answer(name, *words))
+
 
 class Z21StopAll(StopAll, Z21Case):
     stopped_by_hand = "OFF"  # it drives nothing until its power is switched on
+
+    def answers_in_vain(self, times):
+        say, lost = type(self.station).say_bus.__get__(self.station), []
+        self.station.loses = 0
+        self.station.say_bus = lambda client, *data: (
+            lost.append(data) if data[0] == 0x62 and len(lost) < times else say(client, *data))
 
     def test_what_a_hand_began_to_drive_just_before_it_and_the_report_was_lost(self):
         """The station keeps that speed while it stops all. Nobody has told the driver: its locomotive stands."""
@@ -262,6 +286,20 @@ class Z21StopAll(StopAll, Z21Case):
             self.track(lambda s: s.power == 1, "power is on again")
             time.sleep(3 * QUIET)
             self.assertEqual((self.starts_since(begun), self.station.cabs[3]), ([], (0, 1)))
+
+
+    def test_a_hand_that_stopped_just_before_it_and_the_report_was_lost(self):
+        """The registry cannot have what it drove. While that drives nothing is confirmed."""
+        self.station.loses = 0
+        self.station.hand(10240, speed=40)
+        until(lambda: "locomotive 10240, which a hand throttle drives" in self.driver.told(), "the driver has heard it")
+        self.throttle.order("SET 1 POWER ON stop all")
+        time.sleep(3 * QUIET)
+        self.has("100 INFO 1 POWER ON stop all")
+        self.station.loses = 1
+        self.station.hand(10240, speed=0)
+        self.station.loses = 0
+        until(lambda: "100 INFO 1 POWER ON all stood" in rows(self.server.port), "the driver confirms it", 20)
 
 
 class OfStopAll(unittest.IsolatedAsyncioTestCase):

@@ -162,6 +162,42 @@ class Z21WithLosses(Losses, Z21Case):
         self.station.deaf = False
         self.track(lambda s: s.cabs[3][0] <= 0, "it stands")
 
+    def test_a_station_that_was_reset_and_misses_who_greets_it(self):
+        """It was reset once. It is greeted until it has heard that, and what somebody commands meanwhile drives on."""
+        self.station.loses, take, missed = 0, self.station.take, []
+        self.station.take = lambda header, data: (
+            not missed.append(data) if header == 0x50 and len(missed) < 30 else take(header, data))
+        self.station.restart()
+        self.rests("station was reset")
+        begun = len(self.station.moves)
+        self.drives()
+        self.track(lambda s: s.clients, "it has heard who greets it")
+        time.sleep(3)
+        self.assertEqual([move for move in self.station.moves[begun:] if not move[2]], [])
+        self.assertEqual((self.station.power, self.station.cabs[3], len(missed)), (1, (63, 1), 30))
+
+    def test_a_station_that_does_not_say_whom_it_tells(self):
+        """It is driven, and is not greeted again and again."""
+        take, greeted = self.station.take, []
+        self.station.loses = 0
+        self.station.take = lambda header, data: (
+            header == 0x51 or not (greeted.append(data) if header == 0x50 else None) and take(header, data))
+        self.restarts()
+        time.sleep(3)
+        count = len(greeted)
+        time.sleep(2)
+        self.assertEqual((len(greeted) - count, self.station.cabs[3]), (0, (63, 1)))
+        self.assertGreater(count, 3)
+
+    def test_a_late_word_that_the_station_knows_nobody(self):
+        """It was asked before the station was greeted. It is no other reset."""
+        self.station.loses, told = 0, self.driver.told().count("has forgotten this program")
+        for client in [*self.station.clients]:
+            self.station.say(client, 0x51, bytes(4))
+        time.sleep(2)
+        self.assertEqual(self.driver.told().count("has forgotten this program"), told)
+        self.assertEqual((self.station.power, self.station.cabs[3]), (1, (63, 1)))
+
     def test_a_station_that_programs_a_decoder(self):
         """Power counts as off. The station is told nothing that would end the programming, until somebody does."""
         self.station.program()

@@ -28,7 +28,8 @@ class Train:
 class Route:
     """`steps` has what it still orders, each a kind and a command. `asked`: somebody wants it. `leaves`: it goes back,
     and does so to its end, whoever asks meanwhile. `held`: it may hold locks. `shows`: its signal shows go. `is_stuck`:
-    that could not be stopped. `train`: the one that is followed, or None."""
+    that could not be stopped. `train`: the one that is followed, or None. `runs`: the seconds left of its delay, and
+    `delays` counts how often that began."""
 
     def __init__(self, bus, given):
         self.bus = bus
@@ -38,6 +39,9 @@ class Route:
         self.signal = given.get("signal")
         self.frees = tuple(given.get("frees", []))
         self.sections = [tuple(section) for section in given.get("sections", [])]
+        self.approach = {tuple(sensor) for sensor in given.get("approach", [])}
+        self.delay = given.get("delay", 30)
+        self.delays = 0
         self.accessories = {turnout[:2] for turnout in self.turnouts}
         if self.signal:
             self.accessories.add((self.signal[0], self.signal[1]))
@@ -61,6 +65,7 @@ class Route:
         """A session has begun: no lock is held, and nobody has asked."""
         self.asked = self.leaves = self.held = self.shows = self.is_stuck = self.is_set = self.goes = False
         self.train = None
+        self.runs = 0
         self.steps = [*self.stop(), self.report(False)]
 
     def goes_forth(self):
@@ -140,6 +145,11 @@ class Route:
         if not self.steps or self.is_stuck or self.steps[0][0] == "show" and not self.blocks <= free:
             return None
         kind, command = self.steps[0]
+        if kind == "stop" and self.held and not self.approach <= free:
+            self.runs = self.delay
+            self.delays += 1
+        elif kind == "report" and self.leaves and self.runs:
+            return None
         if self.goes and kind == ("show" if self.signal else "report") and self.sections:
             self.train = Train(self.sections)
         return command
@@ -170,6 +180,9 @@ class Interlocking:
                 self.sensed((int(bus), int(number)), value == "1")
             case [_, "102", "INFO", bus, "FB", number]:
                 self.sensed((int(bus), int(number)), None)
+            case [_, "100", "INFO", _, "TIME"]:
+                for route in self.routes:
+                    route.runs = max(0, route.runs - 1)
             case [_, "100", "INFO", bus, "GA", number, port, "1"] if int(bus) == self.bus:
                 self.pressed(int(number), int(port))
             case [_, "200", "OK", "GO", _]:

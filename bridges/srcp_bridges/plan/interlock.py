@@ -31,8 +31,8 @@ def server_program() -> str:
 
 class RoutePlan:
     """The routes of a file in which neither the program nor the page finds a fault: their bus, and by their
-    numbers their names, turnouts, blocks, signals, the sensors that free them, and their sections. `signals` has the
-    accessories of all signals."""
+    numbers their names, turnouts, blocks, signals, the sensors that free them, their sections and their approaches.
+    `signals` has the accessories of all signals."""
 
     def __init__(self, program: str, path: str):
         self.program = program
@@ -64,6 +64,8 @@ class RoutePlan:
             route["number"]: {(bus, address) for bus, address in route.get("blocks", [])} for route in routes}
         self.sections: dict[int, list[Sensor]] = {
             route["number"]: [(bus, address) for bus, address in route.get("sections", [])] for route in routes}
+        self.approach: dict[int, set[Sensor]] = {
+            route["number"]: {(bus, address) for bus, address in route.get("approach", [])} for route in routes}
         self.frees: dict[int, Sensor] = {
             route["number"]: (route["frees"][0], route["frees"][1]) for route in routes if "frees" in route}
         self.signal: dict[int, Signal] = {
@@ -77,7 +79,7 @@ class RoutePlan:
 
     def sensors(self) -> set[Sensor]:
         """Returns all sensors that it names."""
-        return set(self.frees.values()).union(*self.blocks.values(), *self.sections.values())
+        return set(self.frees.values()).union(*self.blocks.values(), *self.sections.values(), *self.approach.values())
 
     def over(self, turnout: Accessory) -> list[int]:
         """Returns the routes that lead over a turnout."""
@@ -140,6 +142,10 @@ class Interlock:
     def tell_unknown(self, sensor: Sensor) -> None:
         """Tells that nothing is known of a sensor any more."""
         self.tell("102 INFO {} FB {}".format(*sensor))
+
+    def tell_second(self) -> None:
+        """Tells that a second has passed."""
+        self.tell("100 INFO 0 TIME")
 
     async def order(self) -> str:
         """Returns the next order, or an empty text if the program has ended."""

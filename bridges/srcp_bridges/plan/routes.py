@@ -1,13 +1,13 @@
 """The routes of a plan: each leads from a button to another, over turnouts that it wants put to a port."""
 from typing import Any
 
-from srcp_bridges.limits import GREATEST_BUS, GREATEST_GA
+from srcp_bridges.limits import GREATEST_BUS, GREATEST_GA, LONGEST_DELAY
 from srcp_bridges.plan.drawing import TO_THE_RIGHT, Fault, Node
 from srcp_bridges.plan.elements import ACCESSORIES, BUSES, LEFT, PORTS, RIGHT, SENSORS, TURNOUT, Elements, is_within
 from srcp_bridges.plan.lines import Lines
 from srcp_bridges.plan.tracks import Ways, leaves, way
 
-KEYS = ("number", "name", "from", "to", "turnouts", "blocks", "signal", "frees", "sections")
+KEYS = ("number", "name", "from", "to", "turnouts", "blocks", "signal", "frees", "sections", "approach", "delay")
 ROUTE_TURNOUT = (BUSES, ACCESSORIES, PORTS)
 SENSOR = (BUSES, SENSORS)
 SIGNAL = (BUSES, ACCESSORIES, PORTS, PORTS)
@@ -35,12 +35,15 @@ def check_route(index: int, given: dict[str, Any], own: object, lines: Lines) ->
     if not is_within([given.get("number")], (ACCESSORIES,)):
         refuse("number", f"a route has a number from 1 to {GREATEST_GA}")
     for key, each, what in (("turnouts", ROUTE_TURNOUT, "[bus, address, port]"), ("blocks", SENSOR, "[bus, sensor]"),
-                            ("sections", SENSOR, "[bus, sensor]")):
+                            ("sections", SENSOR, "[bus, sensor]"), ("approach", SENSOR, "[bus, sensor]")):
+        named = "sensors of the approach" if key == "approach" else key
         values = given.get(key, [])
         if not isinstance(values, list) or not all(is_within(value, each) for value in values):
-            refuse(key, f"the {key} of a route are a list of {what}")
+            refuse(key, f"the {named} of a route are a list of {what}")
         if any(value[0] == own for value in values):
-            refuse(key, f"the {key} of a route are on other buses than the routes' own, {own}")
+            refuse(key, f"the {named} of a route are on other buses than the routes' own, {own}")
+    if not is_within([given.get("delay", 1)], (range(1, LONGEST_DELAY + 1),)):
+        refuse("delay", f"the delay of a route is 1 to {LONGEST_DELAY} seconds")
     for key, each, what in (("signal", SIGNAL, "[bus, address, port of go, port of stop]"),
                             ("frees", SENSOR, "[bus, sensor]")):
         if key in given and not is_within(given[key], each):

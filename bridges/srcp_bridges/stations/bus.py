@@ -15,6 +15,8 @@ from srcp_bridges.stations.holds import Holds
 from srcp_bridges.stations.registry import POWER, Orders
 from srcp_bridges.stations.track import Hooks, Track
 
+# Texts of a driver, or of its last words, that answer no STOP ALL: one that waits for its answer waits on.
+NO_ANSWERS = UNCONFIRMED, CONFIRMED, THROWN, NO_DRIVER
 LEFT_OUT = {"bus": "not on bus {}", "protocol": "protocol {}", "slots": "the station has {} slots"}
 
 
@@ -42,6 +44,7 @@ class Bus:
         self.hooks = hooks
         self.stopping = False
         self.silent: frozenset[int] = frozenset()
+        self.unconfirmed = UNCONFIRMED  # the last text of power by which this driver has told of them
         self.mirror = Mirror(asked, self.take, self.join, self.leave, keeps_place=True)
         self.orders = Orders(self.mirror)
         self.holds = Holds(self.number, self.mirror, self.orders, lambda part: self.track.mark(part))
@@ -89,7 +92,7 @@ class Bus:
             self.holds.hold(POWER, row, STOP_ALL if row.text == STOP_ALL else before.text)
         if row.text == STOP_ALL:
             self.stop_all(row)
-        elif not row.text.startswith((UNCONFIRMED, THROWN)):
+        elif not row.text.startswith(NO_ANSWERS):
             self.stopping = False
         if not row.on and row.text == NO_DRIVER:  # this program slept
             self.lose(NO_DRIVER)
@@ -106,30 +109,70 @@ class Bus:
         asyncio.get_running_loop().call_later(FOLLOWS, self.holds.rest_all)
 
     def all_stood(self) -> None:
-        """The station has confirmed that all stand."""
-        self.stopping = not self.tell_power(ALL_STOOD)
+        """The station has confirmed that all stand: the row of power is to say so. This is called until it does."""
+        if self.may_say():
+            self.orders.put(POWER, partial(self.answer, self.holds.stopped))
+
+    async def answer(self, stopped: float) -> None:
+        """Has the row of power say that all stood since the STOP ALL with that stamp, unless there is a newer one. If
+        one comes while that is on its way, the answer takes its place: then it is told anew."""
+        row = await self.get_power()
+        if not row or not row.text.startswith((STOP_ALL, *NO_ANSWERS)):
+            return
+        if self.holds.stopped > stopped or row.text == STOP_ALL and row.stamp > stopped:  # the panel may be late
+            return
+        await self.set_text(row, ALL_STOOD)
+        await self.mirror.catches_up((self.number, "POWER", 0, False))
+        row = await self.get_power() if self.holds.stopped > stopped else None
+        if row and row.text == ALL_STOOD:
+            await self.set_text(row, STOP_ALL)
 
     def tell_silent(self, silent: frozenset[int]) -> None:
-        """Tells every display which locomotives do not confirm what they are told, and when they do again."""
-        if silent == self.silent:
-            return
-        self.silent, addresses = silent, " ".join(map(str, sorted(silent)[:SILENT_NAMED]))
-        say(f"the station does not confirm: {addresses}" if silent else "the station confirms again")
-        if silent or not self.stopping:
+        """Tells every display which locomotives do not confirm what they are told, and when they do again: until the
+        row of power says so."""
+        addresses = " ".join(map(str, sorted(silent)[:SILENT_NAMED]))
+        if silent != self.silent:
+            say(f"the station does not confirm: {addresses}" if silent else "the station confirms again")
+        self.silent = silent
+        if self.may_say() and self.is_untold(text := f"{UNCONFIRMED} {addresses}" if silent else ""):
+            self.unconfirmed = text or self.unconfirmed
             self.tell_power(f"{UNCONFIRMED} {addresses}" if silent else CONFIRMED)
 
-    def tell_power(self, text: str) -> bool:
-        """Has the row of power say something, unless it is about to say something else; returns whether it will."""
-        is_free = POWER not in self.orders.due and POWER not in self.holds.held
-        if is_free:
+    def is_untold(self, text: str) -> bool:
+        """Returns whether the row of power is to say that text of this driver; "": that all confirm again. What another
+        driver of the bus says of locomotives stays."""
+        row = self.mirror.rows.get((self.number, "POWER", 0, "does"))
+        is_own = row is not None and row.text == self.unconfirmed
+        if not text or not row or row.text == text:
+            return is_own and not text and not self.stopping
+        if row.text.startswith(UNCONFIRMED):
+            return is_own
+        return row.on or row.text == STOP_ALL
+
+    def may_say(self) -> bool:
+        """Returns whether the row of power is free to say something: it is not about to say something else."""
+        return POWER not in self.orders.due and POWER not in self.holds.held
+
+    def tell_power(self, text: str) -> None:
+        """Has the row of power say something, if it is free to."""
+        if self.may_say():
             self.orders.put(POWER, partial(self.say_power, text))
-        return is_free
 
     async def say_power(self, text: str) -> None:
-        row = await self.mirror.get((self.number, "POWER", 0, "does"))  # what the panel told may be of before
-        answers = row and row.text.startswith((STOP_ALL, UNCONFIRMED))
-        if row and (answers or row.on and text.startswith((STOP_ALL, UNCONFIRMED))):
-            await self.mirror.ask(f"SET {self.number} POWER {'ON' if row.on else 'OFF'} {text}")
+        """Has the row of power say something. That a locomotive confirms again takes the place of no STOP ALL."""
+        row = await self.get_power()
+        before = (UNCONFIRMED,) if text == CONFIRMED else (STOP_ALL, UNCONFIRMED)
+        if not row or row.text == text != STOP_ALL:
+            return
+        if row.text.startswith(before) or row.on and text.startswith((STOP_ALL, UNCONFIRMED)):
+            await self.set_text(row, text)
+
+    async def get_power(self) -> Power | None:
+        """Returns the row of power that the server has at this moment: what the panel told may be of before."""
+        return await self.mirror.get((self.number, "POWER", 0, "does"))
+
+    async def set_text(self, row: Power, text: str) -> None:
+        await self.mirror.ask(f"SET {self.number} POWER {'ON' if row.on else 'OFF'} {text}")
 
     def locomotive(self, address: int, change: Change) -> None:
         row = change.row

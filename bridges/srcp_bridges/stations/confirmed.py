@@ -66,7 +66,10 @@ class Confirmed(Station):
         return is_so
 
     def heard_power(self, on: int, why: str = OFF) -> None:
-        """Takes a report of the power, and why it is off."""
+        """Takes a report of the power, and why it is off. That it is on as it was told is no button, however late that
+        comes: this program may have slept."""
+        if on and self.confirm(POWER, on):
+            return
         if not on or self.has_heard(POWER, on):
             self.hands.power(on, why)
         self.confirm(POWER, on)
@@ -113,6 +116,11 @@ class Confirmed(Station):
                 self.track.stops.add(part[1])
             self.track.forgets(part)
 
+    def ask_again(self) -> None:
+        """Asks a station again that has not answered since a STOP ALL: the question was lost, or its answer."""
+        if self.bus.stopping and not self.heard and asyncio.get_running_loop().time() > self.stop_asked + CONFIRMS:
+            self.ask_whether_heard()
+
     async def tend(self) -> None:
         now = looked = asyncio.get_running_loop().time()
         while True:
@@ -122,6 +130,7 @@ class Confirmed(Station):
             if self.ready.is_set():
                 self.bus.tell_silent(self.awaited.silent(now))
                 self.tell_again()
+                self.ask_again()
                 self.look()
                 self.look_whether_all_stand()
             await asyncio.sleep(TICK)

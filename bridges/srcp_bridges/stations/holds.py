@@ -143,7 +143,13 @@ class Holds:
         if not isinstance(row, Power) or not self.station or row.on:
             return
         if row.text in (NO_STATION, NO_DRIVER if listed else None):
-            self.set_power("")
+            self.orders.put(POWER, partial(self.clear, row.text))
+
+    async def clear(self, text: str) -> None:
+        """Takes a text of power away, unless somebody has switched that on meanwhile: the panel may be late."""
+        row = await self.mirror.get((self.bus, "POWER", 0, "does"))
+        if row and not row.on and row.text == text:
+            await self.mirror.ask(f"SET {self.bus} POWER OFF")
 
     def station_goes(self) -> None:
         self.station = False

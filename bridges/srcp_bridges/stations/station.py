@@ -56,6 +56,7 @@ class Station:
         self.questions = 0
         self.began = 0.0
         self.heard = False  # since it was told to stop all
+        self.stop_asked = 0.0  # when it was asked last whether it has heard that
         self.ahead = Ahead(self.ROOM, self.MOST, self.RESERVE)
         self.last_words = LastWords(asked, self.TIMES)
         self.line: Line | Datagrams
@@ -113,7 +114,12 @@ class Station:
         if self.ready.is_set():
             with contextlib.suppress(OSError):  # another task sees to that
                 self.say_stop_all()
-                self.line.write(self.ALIVE)
+                self.ask_whether_heard()
+
+    def ask_whether_heard(self) -> None:
+        """Asks for something small, whose answer shows that the station has heard a STOP ALL."""
+        self.stop_asked = asyncio.get_running_loop().time()
+        self.line.write(self.ALIVE)
 
     def stands(self) -> bool:
         """Returns whether all stand, as far as the station says."""

@@ -8,7 +8,7 @@ from functools import partial
 from typing import Literal
 from srcp_bridges.limits import ANSWERED, PULSE, STAYS
 from srcp_bridges.program import say
-from srcp_bridges.srcp.rows import CONFIRMED, THROWN, UNCONFIRMED, Port
+from srcp_bridges.srcp.rows import CONFIRMED, STOP_ALL, THROWN, UNCONFIRMED, Port
 from srcp_bridges.stations.bus import Bus
 from srcp_bridges.stations.registry import POWER
 
@@ -83,16 +83,24 @@ class Thrown:
         self.stopping = now if self.bus.stopping else self.stopping
         is_free = power and power.on and now > self.stopping + ANSWERED and TOLD not in self.bus.orders.due
         if self.untold and is_free:
-            address, port = self.untold.popitem()
-            self.bus.orders.put(TOLD, partial(self.tell, f"{THROWN} {address} {port}"))
+            address, port = next(iter(self.untold.items()))
+            self.bus.orders.put(TOLD, partial(self.tell_of, address, port))
 
-    async def tell(self, text: str) -> None:
-        """Has the row of power say something, if it is on; what it says of locomotives it says again then."""
+    async def tell_of(self, address: int, port: int) -> None:
+        """Tells displays of a turnout. If the row of power cannot say so, `look` tries again."""
+        is_told = self.untold.get(address) == port and await self.tell(f"{THROWN} {address} {port}")
+        if is_told and self.untold.get(address) == port:
+            del self.untold[address]
+
+    async def tell(self, text: str) -> bool:
+        """Has the row of power say something, if it is on; what it says of locomotives it says again then. Returns
+        whether it has."""
         row = await self.bus.mirror.get((self.bus.number, *POWER_ROW))
-        if not row or not row.on or POWER in self.bus.holds.held or self.bus.stopping:
-            return
+        if not row or not row.on or POWER in self.bus.holds.held or self.bus.stopping or row.text == STOP_ALL:
+            return False
         if text == CONFIRMED and not row.text.startswith(THROWN):
-            return
+            return False
         await self.bus.mirror.ask(f"SET {self.bus.number} POWER ON {text}")
         if row.text.startswith(UNCONFIRMED):
             await self.bus.mirror.ask(f"SET {self.bus.number} POWER ON {row.text}")
+        return True

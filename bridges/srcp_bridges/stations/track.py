@@ -120,9 +120,10 @@ class Track:
     def mark(self, part: Part) -> None:
         """Notes whether a part is to be told, and how urgently. One that waits already keeps its place."""
         urgency, value = self.wanted(part)
+        if part[0] == "cab" and urgency == URGENT and value in (None, self.told.get(part)):
+            self.stops.discard(part[1])  # it has made that stop, and may have been told to stand since
+            urgency, value = self.wanted(part)
         differs = value is not None and value != self.told.get(part)
-        if part[0] == "cab" and urgency == URGENT and not differs:
-            self.stops.discard(part[1])  # it has made that stop
         for level, waiting in enumerate(self.waiting):
             if part in waiting and not (differs and level == urgency):
                 del waiting[part]

@@ -22,3 +22,4 @@ pub mod NothingIsLent
 pub mod CallLaws
 pub mod SlackAgrees
 pub mod OneLineIsLent
+pub mod PastIsLived

@@ -31,27 +31,8 @@ use std::alloc::Global;
 use std::marker::Model;
 use walk::{PanelKeys, carry_out_due, free_all, least_slack, panel_keys};
 
-/// Holds the registry of a layout, and the connections to it with their sessions.
-///
-/// A server calls a core in this order, over and over:
-/// 1. `advance` with the present moment;
-/// 2. `connect` for a new peer, which returns the key of the connection;
-/// 3. for each connection, `receive` with at most 256 new bytes, if `ready` returns true;
-/// 4. `outgoing` for the bytes to send and `sent` with the number of bytes taken, until `outgoing` lends none;
-/// 5. `hangup` if the peer is gone, or if `closing` returns true.
-///
-/// ```
-/// core.advance(now);
-/// let key = core.connect()?;
-/// if core.ready(key) {
-///     core.receive(key, b"GO\n")?;
-/// }
-/// let taken = peer.write(core.outgoing(key)?)?;
-/// core.sent(key, taken);
-/// if core.closing(key) {
-///     core.hangup(key)?;
-/// }
-/// ```
+/// Holds the registry of a layout, and the connections to it with their sessions. The comments of `LoggedCore` say what
+/// the calls of the same names do.
 #[derive(Drop)]
 pub struct Core<'a, R: Rows> {
     alloc: Global,
@@ -134,9 +115,7 @@ impl<'a, R: Rows> Core<'a, R> {
         })
     }
 
-    /// Advances to the moment, in milliseconds, and carries out every row due then, in key order. Accessories fall back
-    /// and locks end, as in SRCP 0.8. A moment earlier than the last counts as the last. Law: `moment` of
-    /// `laws::calls_follow`.
+    /// Advances to the moment. Law: `moment` of `laws::calls_follow`.
     pub fn advance(&mut self, moment: u64)
         ensures { self.new ≡ advanced moment self.old }
     {
@@ -149,22 +128,18 @@ impl<'a, R: Rows> Core<'a, R> {
         );
     }
 
-    /// Returns the moment at which the first of the rows falls due, in milliseconds, or `None` if no row has a due
-    /// moment. Until then `advance` changes no row, if nothing else is called meanwhile. Law: `due` of
-    /// `laws::calls_follow`.
+    /// Returns the moment at which the first of the rows falls due. Law: `due` of `laws::calls_follow`.
     pub fn earliest_due(&self) -> Option<u64>
         ensures { IsEarliestDue result self.now.rows }
     {
         self.rows.earliest_due()
     }
 
-    /// Opens a connection, and returns the key of the connection. The reply buffer is allocated whole before anything
-    /// changes, and holds the welcome line of SRCP 0.8. Laws: `opened`, `not_opened`, `accepts`, `refuses`, `named` and
-    /// `counted` of `laws::calls_follow`.
+    /// Opens a connection, and returns the key of the connection. Laws: `opened`, `not_opened`, `accepts`, `refuses`,
+    /// `named` and `counted` of `laws::calls_follow`.
     ///
     /// # Errors
-    /// Returns `Full` if 64 connections are open, and `Memory` if memory is refused. The refusal is counted, and all
-    /// else stays as before.
+    /// Returns `Full` or `Memory` (`IsNotAdmitted`).
     #[tactic(auto, using(crate::proofs::Invariants::PanelsStay::panels_inserted))]
     pub fn connect(&mut self) -> Result<usize, CoreFault>
         ensures admitted { IfOk result (λ key. IsAdmitted key self.old self.new) }
@@ -182,8 +157,7 @@ impl<'a, R: Rows> Core<'a, R> {
         }
     }
 
-    /// Removes a connection, and ends the session of the connection if the session goes on. The locks are removed in
-    /// key order, and then the session's row. Locks end with their session in SRCP 0.8. Laws: `shut`, `shuts` and
+    /// Removes a connection, and ends the session of the connection if the session goes on. Laws: `shut`, `shuts` and
     /// `there` of `laws::calls_follow`.
     ///
     /// # Errors
@@ -210,8 +184,8 @@ impl<'a, R: Rows> Core<'a, R> {
         Ok(())
     }
 
-    /// Returns whether `receive` accepts a piece of at most 256 bytes: the connection is open, did not end or overrun,
-    /// and has no unsent bytes. Laws: `bytes` and `takes` of `laws::calls_follow`.
+    /// Returns whether `receive` accepts a piece of at most 256 bytes. Laws: `bytes` and `takes` of
+    /// `laws::calls_follow`.
     pub fn ready(&self, conn: usize) -> bool
         ensures { result ≡ is_none (bytes_fault conn [] self.now) }
     {
@@ -221,15 +195,14 @@ impl<'a, R: Rows> Core<'a, R> {
         }
     }
 
-    /// Returns whether the connection is to be closed: the connection overran, or the session ended by its own command
-    /// and all replies are sent. Returns false if there is no such connection. Law: `closes` of `laws::calls_follow`.
+    /// Returns whether the connection is to be closed. Law: `closes` of `laws::calls_follow`.
     pub fn closing(&self, conn: usize) -> bool
         ensures { result ≡ is_last (finish_at conn self.now) }
     {
         matches!(self.finish_of(conn), Finish::Overrun | Finish::Closing)
     }
 
-    /// Returns how many allocations were refused since `new`. The count stops at the greatest u64.
+    /// Returns how many allocations were refused since `new`.
     pub fn denied(&self) -> u64
         ensures count { result ≡ self.now.denied }
         ensures laid_out { IsLayout self.now.buses }
@@ -237,9 +210,7 @@ impl<'a, R: Rows> Core<'a, R> {
         self.denied
     }
 
-    /// Returns how many more changes each information session can queue: 256 less the most changes waiting for any
-    /// session. Returns `None` if there is no information session. No change waits for an overrun session, which counts
-    /// as 256 until the hang-up. Law: `slack` of `laws::calls_follow`.
+    /// Returns how many more changes each information session can queue. Law: `slack` of `laws::calls_follow`.
     pub fn slack(&self) -> Option<usize>
         ensures { result ≡ least (map slack_at self.now.places) }
     {

@@ -12,7 +12,7 @@ use Rattle.srcp_info.specs.declared.key.Key.{Key}
 use Rattle.srcp_info.specs.declared.value.Value.{Value}
 use Rattle.srcp_info.specs.declared.value.Value.TheVariants.{GaPort, Fb}
 use Rattle.srcp_routes.specs.declared.interlocking.Event.{Event}
-use Rattle.srcp_routes.specs.declared.interlocking.Event.TheVariants.{Ask, Give, Told, Reply, Lost}
+use Rattle.srcp_routes.specs.declared.interlocking.Event.TheVariants.{Ask, Give, Told, Second, Reply, Lost}
 use Rattle.srcp_routes.specs.declared.route.Device.{Device}
 use Rattle.srcp_routes.specs.declared.route.Occupancy.{Occupancy}
 use Rattle.srcp_routes.specs.declared.route.Occupancy.TheVariants as occupancy
@@ -61,9 +61,17 @@ unknown_event (stamp ∷ code ∷ info ∷ bus ∷ group ∷ address ∷ []) =
     then option_map (λ sensor. Told sensor occupancy.Unknown) (named_sensor bus address) else None
 unknown_event other = None
 
+-- ---- time
+
+-- `100 INFO`, a bus and `TIME`: a second has passed
+abbrev pub second_event : List (List ℕ) → Option Event
+second_event (stamp ∷ code ∷ info ∷ bus ∷ group ∷ []) =
+    if bytes_eq code (codes "100") && bytes_eq group (codes "TIME") then Some Second else None
+second_event other = None
+
 -- what a line tells by its words
 abbrev pub words_event : List (List ℕ) → Option Event
-words_event words = option_or (reply_event words) (unknown_event words)
+words_event words = option_or (reply_event words) (option_or (unknown_event words) (second_event words))
 
 -- ---- changes that a panel is told of
 

@@ -3,7 +3,7 @@
 ghost use Rattle.std.specs.Prelude.{◌≡◌};
 ghost use Rattle.srcp_interlock.specs.Hearing.{is_go, is_refusal, coded_event, reply_event, port_event, place_of};
 ghost use Rattle.srcp_interlock.specs.Hearing.{occupancy_of, row_event, change_event, Hears, named_sensor};
-ghost use Rattle.srcp_interlock.specs.Hearing.{unknown_event, words_event};
+ghost use Rattle.srcp_interlock.specs.Hearing.{second_event, unknown_event, words_event};
 ghost use Rattle.srcp_text.specs.Words.{words_of};
 
 use srcp_info::{Change, GREATEST_BUS, Key, Value, read_change};
@@ -95,7 +95,25 @@ fn unknown_event(line: &[u8]) -> Option<Event>
     Some(Event::Told(sensor, Occupancy::Unknown))
 }
 
-/// Returns the event of a line by its words, if any: that of a reply, or of a sensor that is not known any more.
+/// Returns the event of a line that tells that a second has passed, if the line does. No panel is sent such a line: who
+/// hands lines to the box writes one each second.
+fn second_event(line: &[u8]) -> Option<Event>
+    ensures { result ≡ second_event (words_of line.now) }
+{
+    let mut words = words(line);
+    let _stamp = words.next()?;
+    let code = words.next()?;
+    let _info = words.next()?;
+    let _bus = words.next()?;
+    let group = words.next()?;
+    if words.next().is_some() || code != b"100".as_slice() || group != b"TIME".as_slice() {
+        return None;
+    }
+    Some(Event::Second)
+}
+
+/// Returns the event of a line by its words, if any: that of a reply, of a sensor that is not known any more, or of a
+/// second that has passed.
 fn words_event(line: &[u8]) -> Option<Event>
     ensures { result ≡ words_event (words_of line.now) }
 {
@@ -103,7 +121,11 @@ fn words_event(line: &[u8]) -> Option<Event>
     if replied.is_some() {
         return replied;
     }
-    unknown_event(line)
+    let unknown = unknown_event(line);
+    if unknown.is_some() {
+        return unknown;
+    }
+    second_event(line)
 }
 
 /// Returns what a port with the value 1 says of the route at a place, if anything. `row` is the port's number plus 1.

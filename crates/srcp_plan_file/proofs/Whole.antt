@@ -16,14 +16,14 @@ use Rattle.srcp_routes.specs.declared.route.Device.{Device}
 use Rattle.srcp_routes.specs.declared.route.Setting.{Setting}
 use Rattle.srcp_routes.specs.declared.route.Signal.{Signal}
 use Rattle.srcp_plan_file.specs.Devices.{OrFault, other_bus, device_of, turnout_of, sensor_of, signal_with, signal_of}
-use Rattle.srcp_plan_file.specs.Document.{drawn_in, new_turnout, pieces_at, turnout_in, turnouts_in, array_if}
+use Rattle.srcp_plan_file.specs.Document.{delay_at, drawn_in, new_turnout, pieces_at, turnout_in, turnouts_in, array_if}
 use Rattle.srcp_plan_file.specs.Document.{sensor_in, sensors_in, sensors_at, new_signal, signal_at, frees_at, route_numbered}
 use Rattle.srcp_plan_file.specs.Document.{is_numbered, new_number, apart_from, apart_from_all, route_of, route_in, routes_in}
 use Rattle.srcp_plan_file.specs.Document.{plan_in, plan_of}
 use Rattle.srcp_plan_file.specs.Faults.{plan_key}
 use Rattle.srcp_plan_file.specs.Keys.{only_known, plan_keys, route_keys}
 use Rattle.srcp_plan_file.specs.Plan.{Drawn, PlannedRoute, IsBeside, IsAccessory, IsSensor, IsTurnout, IsSignal, AreOther, IsRoute}
-use Rattle.srcp_plan_file.specs.Plan.{AreApart, IsPlan, last_port, mixes, crosses}
+use Rattle.srcp_plan_file.specs.Plan.{AreApart, IsPlan, default_delay, last_port, longest_delay, mixes, crosses}
 use Rattle.srcp_plan_file.specs.declared.plan.Field.{Field}
 use Rattle.srcp_plan_file.specs.declared.plan.Field.TheVariants as field
 use Rattle.srcp_plan_file.specs.declared.plan.PlanFault.{PlanFault}
@@ -229,6 +229,10 @@ module _ (own number : ℕ) where
       (λ d. after (IsSensor own) (λ frees. IfSome frees (IsSensor own)) (sensor_in own number field.Frees d) _
       (is_sensor_in field.Frees d) (λ sensor h. h))
 
+  delay_holds : (members : Members) → IfOk (delay_at number members) (IsFrom 1 longest_delay)
+  delay_holds members = given (IsFrom 1 longest_delay) default_delay _ (value_at (plan_key field.Delay) members)
+      (omega arith, omega arith) (λ d. is_ranged 1 longest_delay (fault.Beyond number field.Delay) d)
+
   -- a route within the limits of this number
   abbrev IsNumbered : PlannedRoute → Type 0
   IsNumbered route = IsRoute own route × (route.number ≡ number)
@@ -243,7 +247,10 @@ module _ (own number : ℕ) where
       (λ signal s. after (λ frees. IfSome frees (IsSensor own)) IsNumbered (frees_at own number members) _ (frees_hold members)
       (λ frees f. after (All (IsSensor own)) IsNumbered (sensors_at own number field.Sections members) _
       (sensors_hold field.Sections members)
-      (λ sections c. after (λ pieces. Unit) IsNumbered (pieces_at drawn number turnouts members) _ (any _)
+      (λ sections c. after (All (IsSensor own)) IsNumbered (sensors_at own number field.Approach members) _
+      (sensors_hold field.Approach members)
+      (λ approach a. after (IsFrom 1 longest_delay) IsNumbered (delay_at number members) _ (delay_holds members)
+      (λ delay l. after (λ pieces. Unit) IsNumbered (pieces_at drawn number turnouts members) _ (any _)
       (λ pieces p. (
         record {
           number = n;
@@ -252,11 +259,13 @@ module _ (own number : ℕ) where
           signal = s.0;
           frees = f;
           sections = c;
+          approach = a;
+          delay = l;
           turnouts_once = t.1;
           signal_once = s.1;
         },
         refl,
-      )))))))
+      )))))))))
 
 -- ---- routes beside those before them
 

@@ -6,7 +6,7 @@ use Rattle.std.specs.Cmp.Lexicographic.{pointwise}
 use Rattle.toml.specs.Data.{Data, table, Members, as_str, as_table}
 use Rattle.srcp_layout_file.specs.Gives.{◌>>=◌}
 use Rattle.srcp_info.specs.Limits.{greatest_bus, greatest_ga}
-use Rattle.srcp_layout_file.specs.Member.{array_at, array_in, document, if_given, number_at, value_at}
+use Rattle.srcp_layout_file.specs.Member.{array_at, array_in, document, if_given, number_at, ranged, value_at}
 use Rattle.srcp_routes.specs.Conflicts.{has_accessory}
 use Rattle.srcp_routes.specs.declared.route.Device.{Device}
 use Rattle.srcp_routes.specs.declared.route.Setting.{Setting}
@@ -17,7 +17,7 @@ use Rattle.srcp_plan_file.specs.Drawing.{drawing, name_of}
 use Rattle.srcp_plan_file.specs.Elements.{kind_of}
 use Rattle.srcp_plan_file.specs.Joins.{joins_of}
 use Rattle.srcp_plan_file.specs.Keys.{only_known, plan_keys, route_keys}
-use Rattle.srcp_plan_file.specs.Plan.{Drawn, Planned, PlannedRoute, crosses, mixes}
+use Rattle.srcp_plan_file.specs.Plan.{Drawn, Planned, PlannedRoute, crosses, default_delay, longest_delay, mixes}
 use Rattle.srcp_plan_file.specs.Ways.{way}
 use Rattle.srcp_plan_file.specs.declared.plan.Field.{Field}
 use Rattle.srcp_plan_file.specs.declared.plan.Field.TheVariants as field
@@ -83,6 +83,11 @@ new_signal number turnouts signal =
 abbrev pub array_if : (number : ℕ) → Field → Members → OrFault (List Data)
 array_if number of members = if_given [] (array_in (fault.Beyond number of)) (value_at (plan_key of) members)
 
+-- for how many seconds a route keeps its locks
+abbrev pub delay_at : (number : ℕ) → Members → OrFault ℕ
+delay_at number members = if_given default_delay (ranged 1 longest_delay (fault.Beyond number field.Delay))
+    (value_at (plan_key field.Delay) members)
+
 module _ (own number : ℕ) where
   -- a turnout beside those before it
   abbrev pub turnout_in : List Setting → Data → OrFault Setting
@@ -135,6 +140,8 @@ module _ (own number : ℕ) where
     signal ← signal_at turnouts members
     frees ← frees_at members
     sections ← sensors_at field.Sections members
+    approach ← sensors_at field.Approach members
+    delay ← delay_at number members
     pieces ← pieces_at drawn number turnouts members
     Ok (record {
       number = number;
@@ -143,6 +150,8 @@ module _ (own number : ℕ) where
       signal = signal;
       frees = frees;
       sections = sections;
+      approach = approach;
+      delay = delay;
       pieces = pieces;
     })
 

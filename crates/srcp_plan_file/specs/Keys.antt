@@ -17,7 +17,7 @@ plan_keys = field.Bus ∷ field.Route ∷ field.Plan ∷ field.Legend ∷ field.
 abbrev pub route_keys : List Field
 route_keys =
     field.Number ∷ field.Name ∷ field.From ∷ field.To ∷ field.Turnouts ∷ field.Blocks ∷ field.Signal ∷ field.Frees
-    ∷ field.Sections ∷ []
+    ∷ field.Sections ∷ field.Approach ∷ field.Delay ∷ []
 
 -- how many keys there are
 abbrev pub key_count : Members → ℕ

@@ -19,6 +19,13 @@ use Rattle.srcp_plan_file.specs.declared.tracks.Tracks.{Tracks}
 abbrev pub last_port : ℕ
 last_port = most_ports - 1
 
+-- for how many seconds a route keeps its locks at most, and for how many if the plan does not say
+abbrev pub longest_delay : ℕ
+longest_delay = 600
+
+abbrev pub default_delay : ℕ
+default_delay = 30
+
 -- what a plan says of one route
 pub record PlannedRoute : Type 0 where
   pub number : ℕ
@@ -27,6 +34,8 @@ pub record PlannedRoute : Type 0 where
   pub signal : Option Signal
   pub frees : Option Device
   pub sections : List Device
+  pub approach : List Device
+  pub delay : ℕ
   pub pieces : List ℕ
 
 -- the tracks of a drawing: its text, the pieces and what each of them is, and the joins as a train passes to the right
@@ -50,6 +59,8 @@ planned_route route = record {
   signal = route.signal;
   frees = route.frees;
   sections = route.sections.items;
+  approach = route.approach.items;
+  delay = route.delay;
   pieces = route.pieces.items;
 }
 
@@ -125,6 +136,8 @@ pub record IsRoute (own : ℕ) (route : PlannedRoute) : Type 0 where
   pub signal : IfSome route.signal (IsSignal own)
   pub frees : IfSome route.frees (IsSensor own)
   pub sections : All (IsSensor own) route.sections
+  pub approach : All (IsSensor own) route.approach
+  pub delay : (1 ≤ route.delay) × (route.delay ≤ longest_delay)
   pub turnouts_once : AllPairs AreOther route.turnouts
   pub signal_once : turns_signal route route ≡ false
 

@@ -31,8 +31,8 @@ use toml::{Table, Value};
 /// the routes. Then route by route, in the order of the document: the route's number, whether an earlier route has this
 /// number (`Twice`), and a key that is none of a route (`UnknownIn`). The turnouts follow from left to right, and
 /// whether the route named a turnout before (`Repeated`). Then come the blocks, the signal, the sensor by which the
-/// route is freed, the sections, and the way of the route over the drawing (`NoWay`). At last the route is compared
-/// with each earlier route (`Mixed`, `Crossed`). Returns `Memory` if memory is refused.
+/// route is freed, the sections, the approach, the delay, and the way of the route over the drawing (`NoWay`). At last
+/// the route is compared with each earlier route (`Mixed`, `Crossed`). Returns `Memory` if memory is refused.
 pub fn read_plan(alloc: Global, bytes: &[u8]) -> Result<Plan, PlanFault>
     ensures reads { Gives planned PlanFault.Memory result (plan_of bytes.now) }
     ensures whole { IfOk result (λ plan. IsPlan (planned plan)) }

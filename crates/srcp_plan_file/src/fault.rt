@@ -23,6 +23,8 @@ impl Key for Field {
             Field::Signal => "signal",
             Field::Frees => "frees",
             Field::Sections => "sections",
+            Field::Approach => "approach",
+            Field::Delay => "delay",
             Field::Plan => "plan",
             Field::Legend => "legend",
             Field::From => "from",

@@ -19,7 +19,7 @@ pub(crate) const PLAN_KEYS: [Field; 6] = [
 ];
 
 /// The keys of a route.
-pub(crate) const ROUTE_KEYS: [Field; 9] = [
+pub(crate) const ROUTE_KEYS: [Field; 11] = [
     Field::Number,
     Field::Name,
     Field::From,
@@ -29,6 +29,8 @@ pub(crate) const ROUTE_KEYS: [Field; 9] = [
     Field::Signal,
     Field::Frees,
     Field::Sections,
+    Field::Approach,
+    Field::Delay,
 ];
 
 /// Returns how many keys there are.

@@ -27,6 +27,8 @@ pub enum Field {
     Signal,
     Frees,
     Sections,
+    Approach,
+    Delay,
     Plan,
     Legend,
     From,

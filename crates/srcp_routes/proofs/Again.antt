@@ -8,7 +8,7 @@ use Rattle.srcp_routes.specs.Plan.{Table, stage_at, wanted_at}
 use Rattle.srcp_routes.specs.Stages.{is_idle, order_of, retried_stage}
 use Rattle.srcp_routes.specs.Steps.{answered, due, heard, is_renewed, ready_at, sent, stage_replied}
 use Rattle.srcp_routes.specs.declared.interlocking.Event.{Event}
-use Rattle.srcp_routes.specs.declared.interlocking.Event.TheVariants.{Ask, Give, Told, Reply, Lost}
+use Rattle.srcp_routes.specs.declared.interlocking.Event.TheVariants.{Ask, Give, Told, Second, Reply, Lost}
 use Rattle.srcp_routes.specs.declared.route.Order.{Order}
 use Rattle.srcp_routes.specs.declared.route.Route.{Route}
 use Rattle.srcp_routes.specs.declared.stage.Stage.{Stage}
@@ -106,6 +106,7 @@ heard_busy t (Give n) all = set_busy t.stages n (retried_stage (stage_at t.stage
     (off_fewer t.again n) (off_here t.again n _) all
 heard_busy t (Told sensor now) all = all
 heard_busy t (Reply ok) all = answer_busy t ok t.waiting all
+heard_busy t Second all = all
 heard_busy t Lost all = λ n h.
     let none : wanted_at (replicate (length t.routes) false) n ≡ false = none_wanted (length t.routes) n in absurd (cc)
 

@@ -11,7 +11,7 @@ use Rattle.srcp_routes.specs.Stages.{after_reply, falls, is_held, is_idle, lost_
 use Rattle.srcp_routes.specs.Steps.{after, answered, due, heard, may_begin, ready_in, sent, stage_replied}
 use Rattle.srcp_routes.specs.Trains.{has_entered}
 use Rattle.srcp_routes.specs.declared.interlocking.Event.{Event}
-use Rattle.srcp_routes.specs.declared.interlocking.Event.TheVariants.{Ask, Give, Told, Reply, Lost}
+use Rattle.srcp_routes.specs.declared.interlocking.Event.TheVariants.{Ask, Give, Told, Second, Reply, Lost}
 use Rattle.srcp_routes.specs.declared.route.Route.{Route}
 use Rattle.srcp_routes.specs.declared.route.Signal.{Signal}
 use Rattle.srcp_routes.specs.declared.stage.Stage.{Stage}
@@ -219,6 +219,7 @@ heard_apart t (Give n) apart =
     follows t.routes t.stages n (retried_stage (stage_at t.stages n)) (retry_follows (stage_at t.stages n)) apart
 heard_apart t (Told sensor on) apart = apart
 heard_apart t (Reply ok) apart = replied_of t ok t.waiting apart
+heard_apart t Second apart = apart
 heard_apart t Lost apart = λ n m differ clash h.
     let not : is_held (stage_at (map lost_stage t.routes) n) ≡ false = stage_at-start t.routes n in absurd (cc)
 

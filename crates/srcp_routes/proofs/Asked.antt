@@ -6,7 +6,7 @@ use Rattle.std.proofs.lemmas.Option.{slice_get_within}
 use Rattle.std.specs.Option.{option_map_or}
 use Rattle.std.specs.Prelude.{fold, if◌then◌else◌, is_some, option_and_then, slice_get, slice_set}
 use Rattle.srcp_routes.specs.Conflicts.{is_occupied, is_same, is_vacant}
-use Rattle.srcp_routes.specs.Laws.{AskedAreServed, IsServed, WantedAreServed, has_come, is_asked}
+use Rattle.srcp_routes.specs.Laws.{AskedAreServed, IsServed, WantedAreServed, has_come, is_asked, waits_out}
 use Rattle.srcp_routes.specs.Plan.{Table, has_passed, is_freed, stage_at, start, still_wanted, wanted_at, wanted_behind}
 use Rattle.srcp_routes.specs.Runs.{Run, asks_heard, is_freed_by, is_passed, run, run_after, run_start}
 use Rattle.srcp_routes.specs.Stages.{is_held, is_idle}
@@ -14,12 +14,13 @@ use Rattle.srcp_routes.specs.Steps.{after, answered, course, due, followed, hear
 use Rattle.srcp_routes.specs.Steps.{stage_replied, told}
 use Rattle.srcp_routes.specs.declared.conflict.Sensed.{Sensed}
 use Rattle.srcp_routes.specs.declared.interlocking.Event.{Event}
-use Rattle.srcp_routes.specs.declared.interlocking.Event.TheVariants.{Ask, Give, Told, Reply, Lost}
+use Rattle.srcp_routes.specs.declared.interlocking.Event.TheVariants.{Ask, Give, Told, Second, Reply, Lost}
 use Rattle.srcp_routes.specs.declared.route.Device.{Device}
 use Rattle.srcp_routes.specs.declared.route.Occupancy.{Occupancy}
 use Rattle.srcp_routes.specs.declared.route.Route.{Route}
 use Rattle.srcp_routes.proofs.Again.{after_else, wanted_else}
 use Rattle.srcp_routes.proofs.Behind.{Follows, after_follows, run_follows, start_follows}
+use Rattle.srcp_routes.proofs.Delays.{Delays, after_delays, delays_keep, run_delays}
 use Rattle.srcp_routes.proofs.Followed.{passed_is, word}
 use Rattle.srcp_routes.proofs.Places.{at-places, at-set_same}
 use Rattle.srcp_routes.proofs.Rest.{IsResting, after_resting, resting_served}
@@ -161,6 +162,7 @@ heard_asked routes r (Reply false) n route asks is h =
     reply_asked r.table false r.table.waiting n
     (omega (arith, slice_get_within routes n route is, asks.follows.long.wanted))
     (λ e. not-true (option_map_or (λ m. n == m) r.table.waiting false) both.0) (asks.asked n route is both.1)
+heard_asked routes r Second n route asks is h = asks.asked n route is h
 heard_asked routes r Lost n route asks is h = absurd (cc)
 
 next_asked : (t : Table) (waits : Bool) (d : Option ℕ) (n : ℕ) → is_asked t n ≡ true
@@ -187,19 +189,22 @@ fold_asks routes r [] asks = asks
 fold_asks routes r (event ∷ events) asks = fold_asks routes (run_after r event) events (after_asks routes r event asks)
 
 -- a route that is asked for in the table of a run, once no order waits for its reply
-served_at : (routes : List Route) (r : Run) (n : ℕ) (route : Route) → Follows routes r → IsResting routes r.table
-    → slice_get routes n ≡ Some route → is_asked r.table n ≡ true → IsServed routes r.table (has_come r n) n route
-served_at routes r n route follows resting is asks =
+served_at : (routes : List Route) (r : Run) (n : ℕ) (route : Route) → Delays routes r → IsResting routes r.table
+    → slice_get routes n ≡ Some route → is_asked r.table n ≡ true
+    → IsServed routes r.table (has_come r n) (waits_out r) n route
+served_at routes r n route delays resting is asks =
     let here : slice_get r.table.routes n ≡ Some route =
     ap (λ (x : List Route). slice_get x n) resting.fits.plan ∙ is in
-    subst (λ (x : List Route). IsServed x r.table (has_come r n) n route) resting.fits.plan
-    (resting_served routes r.table (has_come r n) n route resting (follows.entered n route here) here asks)
+    subst (λ (x : List Route). IsServed x r.table (has_come r n) (waits_out r) n route) resting.fits.plan
+    (resting_served routes r.table (has_come r n) (waits_out r) n route resting (delays_keep routes r delays)
+    (delays.follows.entered n route here) here asks)
 
 pub asked_are_served : AskedAreServed
 asked_are_served routes events event n route is none asks =
     let all : Asks routes (run routes events) = fold_asks routes (run_start routes) events (start_asks routes) in
     let later : Asks routes (run_after (run routes events) event) = after_asks routes (run routes events) event all in
-    served_at routes (run_after (run routes events) event) n route later.follows
+    served_at routes (run_after (run routes events) event) n route
+    (after_delays routes (run routes events) event (run_delays routes events))
     (after_resting routes (run routes events).table event all.follows.sound none) is (later.asked n route is asks)
 
 -- the table of a run is that of its course
@@ -214,6 +219,6 @@ wanted_are_served routes events event n route is =
     let r : Run = run_after (run routes events) event in
     let same : r.table ≡ after (course routes events) event =
     ap (λ (u : Table). after u event) (run_table (run_start routes) (start routes) events refl) in
-    subst (λ (t : Table). t.waiting ≡ None → is_asked t n ≡ true → IsServed routes t (has_come r n) n route) same
-    (λ none asks. served_at routes r n route (after_follows routes (run routes events) event (run_follows routes events))
+    subst (λ (t : Table). t.waiting ≡ None → is_asked t n ≡ true → IsServed routes t (has_come r n) (waits_out r) n route)
+    same (λ none asks. served_at routes r n route (after_delays routes (run routes events) event (run_delays routes events))
     (after_resting routes (run routes events).table event (run_follows routes events).sound none) is asks)

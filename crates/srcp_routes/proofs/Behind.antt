@@ -14,7 +14,7 @@ use Rattle.srcp_routes.specs.Stages.{order_of, show_setting, stop_setting}
 use Rattle.srcp_routes.specs.Steps.{due, heard, ready_at, sent, step}
 use Rattle.srcp_routes.specs.Trains.{at_start, lets_go}
 use Rattle.srcp_routes.specs.declared.interlocking.Event.{Event}
-use Rattle.srcp_routes.specs.declared.interlocking.Event.TheVariants.{Ask, Give, Told, Reply, Lost}
+use Rattle.srcp_routes.specs.declared.interlocking.Event.TheVariants.{Ask, Give, Told, Second, Reply, Lost}
 use Rattle.srcp_routes.specs.declared.route.Order.{Order}
 use Rattle.srcp_routes.specs.declared.route.Order.TheVariants as order
 use Rattle.srcp_routes.specs.declared.route.Route.{Route}
@@ -105,9 +105,10 @@ heard_routes t (Ask n) = refl
 heard_routes t (Give n) = refl
 heard_routes t (Told sensor now) = refl
 heard_routes t (Reply ok) = answer_routes t ok t.waiting
+heard_routes t Second = refl
 heard_routes t Lost = refl
 
-next_routes : (t : Table) (waits : Bool) (d : Option ℕ)
+pub next_routes : (t : Table) (waits : Bool) (d : Option ℕ)
     → (if waits then record { table = t; order = None } else sent t d).table.routes ≡ t.routes
 next_routes t true d = refl
 next_routes t false None = refl

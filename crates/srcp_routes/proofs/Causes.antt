@@ -10,7 +10,7 @@ use Rattle.srcp_routes.specs.Runs.{Locks, Run, granted, heard_of, locked_sent, o
 use Rattle.srcp_routes.specs.Stages.{after_reply, count_of, order_of, retried_stage, turnout_at}
 use Rattle.srcp_routes.specs.Steps.{Stepped, answered, heard, may_begin, order_at, ready_at, ready_in, sent, stage_replied}
 use Rattle.srcp_routes.specs.declared.interlocking.Event.{Event}
-use Rattle.srcp_routes.specs.declared.interlocking.Event.TheVariants.{Ask, Give, Told, Reply, Lost}
+use Rattle.srcp_routes.specs.declared.interlocking.Event.TheVariants.{Ask, Give, Told, Second, Reply, Lost}
 use Rattle.srcp_routes.specs.declared.route.Device.{Device}
 use Rattle.srcp_routes.specs.declared.route.Order.{Order}
 use Rattle.srcp_routes.specs.declared.route.Order.TheVariants as order
@@ -183,6 +183,7 @@ heard_caused routes r (Reply true) fits pends freed all =
     answer_caused routes r.table r.order r.locked true r.table.waiting fits pends freed all
 heard_caused routes r (Reply false) fits pends freed all =
     answer_caused routes r.table r.order r.locked false r.table.waiting fits pends freed all
+heard_caused routes r Second fits pends freed all = all
 heard_caused routes r Lost fits pends freed all = λ n route x is h. absurd (cc)
 
 -- ---- the next order
@@ -232,6 +233,7 @@ heard_freed r (Give n) freed = freed
 heard_freed r (Told sensor on) freed = freed
 heard_freed r (Reply true) freed = λ m x device e same. absurd (cc)
 heard_freed r (Reply false) freed = λ m x device e same. absurd (cc)
+heard_freed r Second freed = freed
 heard_freed r Lost freed = λ m x device e same. absurd (cc)
 
 none_locked : (same locked : Bool) → same ≡ true → (not same && locked) ≡ false

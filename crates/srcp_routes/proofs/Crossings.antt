@@ -10,7 +10,7 @@ use Rattle.srcp_routes.specs.Runs.{Run, Signals, hidden, told_heard, told_sent}
 use Rattle.srcp_routes.specs.Stages.{after_reply, order_of, ready_stage, retried_stage, turnout_at}
 use Rattle.srcp_routes.specs.Steps.{Stepped, answered, due, heard, may_begin, ready_at, ready_in, sent, stage_replied}
 use Rattle.srcp_routes.specs.declared.interlocking.Event.{Event}
-use Rattle.srcp_routes.specs.declared.interlocking.Event.TheVariants.{Ask, Give, Told, Reply, Lost}
+use Rattle.srcp_routes.specs.declared.interlocking.Event.TheVariants.{Ask, Give, Told, Second, Reply, Lost}
 use Rattle.srcp_routes.specs.declared.route.Order.{Order}
 use Rattle.srcp_routes.specs.declared.route.Order.TheVariants as order
 use Rattle.srcp_routes.specs.declared.route.Route.{Route}
@@ -129,6 +129,7 @@ heard_told r (Give n) pends all =
     (λ h. retried_reported (stage_at r.table.stages n) (all n h)) all
 heard_told r (Told sensor now) pends all = all
 heard_told r (Reply ok) pends all = answer_told r.table r.order r.told ok r.table.waiting pends all
+heard_told r Second pends all = all
 heard_told r Lost pends all = λ n h. absurd (cc)
 
 -- ---- the next order

@@ -13,7 +13,7 @@ use Rattle.srcp_routes.specs.Stages.{retried_stage, show_setting, stop_setting, 
 use Rattle.srcp_routes.specs.Steps.{answered, due, heard, may_begin, ready_at, ready_in, sent, stage_replied}
 use Rattle.srcp_routes.specs.Trains.{has_entered, lets_go}
 use Rattle.srcp_routes.specs.declared.interlocking.Event.{Event}
-use Rattle.srcp_routes.specs.declared.interlocking.Event.TheVariants.{Ask, Give, Told, Reply, Lost}
+use Rattle.srcp_routes.specs.declared.interlocking.Event.TheVariants.{Ask, Give, Told, Second, Reply, Lost}
 use Rattle.srcp_routes.specs.declared.route.Order.{Order}
 use Rattle.srcp_routes.specs.declared.route.Order.TheVariants as order
 use Rattle.srcp_routes.specs.declared.route.Route.{Route}
@@ -209,6 +209,7 @@ heard_entered routes r (Give n) fits all =
 heard_entered routes r (Told sensor now) fits all = λ n route is h.
     goes_on (is_taken now && lies_at r.table.routes n (r.head n) sensor) (r.head n) (all n route is h)
 heard_entered routes r (Reply ok) fits all = answer_entered routes r.table r.head ok r.table.waiting fits all
+heard_entered routes r Second fits all = all
 heard_entered routes r Lost fits all = start_entered r.table.routes r.head
 
 -- ---- the next order

@@ -10,7 +10,7 @@ use Rattle.srcp_routes.specs.Runs.{Run, are_all_passed, gives_back, goes_now, he
 use Rattle.srcp_routes.specs.Runs.{run, run_after, run_start, section_of, sensed_heard, tail_heard}
 use Rattle.srcp_routes.specs.Steps.{step}
 use Rattle.srcp_routes.specs.declared.interlocking.Event.{Event}
-use Rattle.srcp_routes.specs.declared.interlocking.Event.TheVariants.{Ask, Give, Told, Reply, Lost}
+use Rattle.srcp_routes.specs.declared.interlocking.Event.TheVariants.{Ask, Give, Told, Second, Reply, Lost}
 use Rattle.srcp_routes.specs.declared.route.Device.{Device}
 use Rattle.srcp_routes.specs.declared.route.Occupancy.{Occupancy}
 use Rattle.srcp_routes.specs.declared.route.Occupancy.TheVariants as occupancy
@@ -28,6 +28,7 @@ head_more r (Told sensor now) n = more (is_taken now && lies_at r.table.routes n
 head_more r (Ask m) n = omega arith
 head_more r (Give m) n = omega arith
 head_more r (Reply ok) n = omega arith
+head_more r Second n = omega arith
 head_more r Lost n = omega arith
 
 entered_less : (tail head : ℕ) (entered o : Bool) → nat_lt (tail + 1) head ≡ entered → tail ≤ head
@@ -49,6 +50,7 @@ tail_less r (Told sensor now) n le = passed_less (is_vacant now) (lies_at r.tabl
 tail_less r (Ask m) n le = le
 tail_less r (Give m) n le = le
 tail_less r (Reply ok) n le = le
+tail_less r Second n le = le
 tail_less r Lost n le = le
 
 both_from : (goes : Bool) (tail head : ℕ) → tail ≤ head → (if goes then 0 else tail) ≤ (if goes then 0 else head)

@@ -16,7 +16,7 @@ use Rattle.srcp_routes.specs.Steps.{answered, heard, told}
 use Rattle.srcp_routes.specs.Trains.{head_told, is_section, is_through, moved, tail_told}
 use Rattle.srcp_routes.specs.declared.conflict.Sensed.{Sensed}
 use Rattle.srcp_routes.specs.declared.interlocking.Event.{Event}
-use Rattle.srcp_routes.specs.declared.interlocking.Event.TheVariants.{Ask, Give, Told, Reply, Lost}
+use Rattle.srcp_routes.specs.declared.interlocking.Event.TheVariants.{Ask, Give, Told, Second, Reply, Lost}
 use Rattle.srcp_routes.specs.declared.route.Device.{Device}
 use Rattle.srcp_routes.specs.declared.route.Occupancy.{Occupancy}
 use Rattle.srcp_routes.specs.declared.route.Route.{Route}
@@ -291,4 +291,5 @@ heard_followed r (Reply true) n route known taken opens is train =
     ap (λ (l : List (Option Train)). train_at l n) (accepted_trains r.table r.table.waiting) ∙ train
 heard_followed r (Reply false) n route known taken opens is train =
     refused_followed r.table r.table.waiting n (r.let_go n) (r.head n) (r.tail n) train
+heard_followed r Second n route known taken opens is train = train
 heard_followed r Lost n route known taken opens is train = at-replicate (length r.table.routes) n None

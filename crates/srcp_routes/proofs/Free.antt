@@ -12,7 +12,7 @@ use Rattle.srcp_routes.specs.Runs.{sensed_heard}
 use Rattle.srcp_routes.specs.Steps.{after, answered, due, heard, sent}
 use Rattle.srcp_routes.specs.declared.conflict.Sensed.{Sensed}
 use Rattle.srcp_routes.specs.declared.interlocking.Event.{Event}
-use Rattle.srcp_routes.specs.declared.interlocking.Event.TheVariants.{Ask, Give, Told, Reply, Lost}
+use Rattle.srcp_routes.specs.declared.interlocking.Event.TheVariants.{Ask, Give, Told, Second, Reply, Lost}
 use Rattle.srcp_routes.specs.declared.route.Device.{Device}
 use Rattle.srcp_routes.specs.declared.route.Occupancy.{Occupancy}
 use Rattle.srcp_routes.specs.declared.route.Occupancy.TheVariants as occupancy
@@ -95,6 +95,7 @@ heard_free of t (Told sensor now) is all = λ x h.
     if_told (is_same x sensor) (of now) (is x) (known_as of t.sensors x ≡ true)
     (told_known of t.sensors sensor x now (is_same x sensor) refl h) (all x)
 heard_free of t (Reply ok) is all = as_before of t.sensors _ is (answer_sensors t ok t.waiting) all
+heard_free of t Second is all = all
 heard_free of t Lost is all = all
 
 next_free : (of : Occupancy → Bool) (t : Table) (waits : Bool) (d : Option ℕ) (is : Device → Bool)
@@ -125,7 +126,8 @@ sensors_known : (of : Occupancy → Bool) (routes : List Route) (x : Device) →
     → known_as of (sensors_of routes) x ≡ false
 sensors_known of [] x none = refl
 sensors_known of (route ∷ routes) x none = none_known of (route_sensors route) (sensors_of routes) x
-    (unknown_known of (route.blocks.items ++ (option_to_list route.frees ++ route.sections.items)) x none)
+    (unknown_known of (route.approach.items
+    ++ (route.blocks.items ++ (option_to_list route.frees ++ route.sections.items))) x none)
     (sensors_known of routes x none)
 
 pub start_free : (of : Occupancy → Bool) (routes : List Route) → of occupancy.Unknown ≡ false

@@ -6,14 +6,14 @@ use Rattle.std.proofs.lemmas.Option.{slice_get_within}
 use Rattle.std.specs.Option.{option_and_then, option_map_or}
 use Rattle.std.specs.Prelude.{fold, if◌then◌else◌, is_some, nat_lt, slice_get, slice_set}
 use Rattle.srcp_routes.specs.Conflicts.{are_free, is_occupied, is_same, is_vacant}
-use Rattle.srcp_routes.specs.Laws.{GivenEnd, IsEnded, is_unstopped, stays}
-use Rattle.srcp_routes.specs.Plan.{Table, has_passed, is_freed, stage_at, train_at, wanted_at}
+use Rattle.srcp_routes.specs.Laws.{GivenEnd, IsEnded, is_unstopped, stays, waits_out}
+use Rattle.srcp_routes.specs.Plan.{Table, delay_at, has_passed, is_freed, stage_at, train_at, wanted_at}
 use Rattle.srcp_routes.specs.Runs.{Run, Signals, are_all_passed, given_heard, gives_back, granted, heard_of, is_freed_by}
 use Rattle.srcp_routes.specs.Runs.{is_passed, order_heard, run, run_after, run_start, tail_heard}
 use Rattle.srcp_routes.specs.Stages.{is_idle}
 use Rattle.srcp_routes.specs.Steps.{answered, due, heard, is_renewed, is_taken_up, may_begin, sent, stage_replied, told}
 use Rattle.srcp_routes.specs.declared.interlocking.Event.{Event}
-use Rattle.srcp_routes.specs.declared.interlocking.Event.TheVariants.{Ask, Give, Told, Reply, Lost}
+use Rattle.srcp_routes.specs.declared.interlocking.Event.TheVariants.{Ask, Give, Told, Second, Reply, Lost}
 use Rattle.srcp_routes.specs.declared.route.Device.{Device}
 use Rattle.srcp_routes.specs.declared.route.Occupancy.{Occupancy}
 use Rattle.srcp_routes.specs.declared.route.Route.{Route}
@@ -23,6 +23,7 @@ use Rattle.srcp_routes.proofs.Again.{none_wanted, wanted_else}
 use Rattle.srcp_routes.proofs.Asked.{differs}
 use Rattle.srcp_routes.proofs.Causes.{heard_caused, heard_freed, next_caused, next_freed}
 use Rattle.srcp_routes.proofs.MayLock.{AllCaused, HasCause, IsFreed, MayLock}
+use Rattle.srcp_routes.proofs.Delays.{Delays, after_delays, delays_keep, run_delays}
 use Rattle.srcp_routes.proofs.Holds.{Holds, after_holds, start_holds}
 use Rattle.srcp_routes.proofs.Behind.{Follows, after_follows, start_follows}
 use Rattle.srcp_routes.proofs.Fallen.{behind_left, fallen_left, not_both, off_of_freed, off_of_wanted}
@@ -161,6 +162,7 @@ heard_off routes r (Told sensor now) follows once all n h =
     ]
 heard_off routes r (Reply true) follows once all n h = accepted_off r.table r.table.waiting n (all n h)
 heard_off routes r (Reply false) follows once all n h = refused_off r.table r.table.waiting n (r.given n) (all n) h
+heard_off routes r Second follows once all n h = all n h
 heard_off routes r Lost follows once all n h = (none_wanted _ n, none_wanted _ n)
 
 next_off : (t : Table) (given : Signals) (waits : Bool) (d : Option ℕ) → AllOff t given
@@ -214,22 +216,28 @@ idle_may stage.Idle k idle may = may
 idle_may other k idle may = absurd (cc)
 
 ended_at : (routes : List Route) (r : Run) (n : ℕ) (route : Route) (idle : Bool) → IsResting routes r.table → Gives routes r
-    → slice_get r.table.routes n ≡ Some route → r.given n ≡ true → is_idle (stage_at r.table.stages n) ≡ idle
-    → (is_unstopped (stage_at r.table.stages n) ≡ true) ⊎ IsEnded r n
-ended_at routes r n route true resting gives is given idle = inr (record {
+    → Delays routes r → slice_get r.table.routes n ≡ Some route → r.given n ≡ true
+    → is_idle (stage_at r.table.stages n) ≡ idle
+    → (is_unstopped (stage_at r.table.stages n) ≡ true) ⊎ ((waits_out r n ≡ true) ⊎ IsEnded r n)
+ended_at routes r n route true resting gives delays is given idle = inr (inr (record {
   unlocked = λ device. not_both (r.locked n device)
       (λ h. let cause : HasCause route (stage_at r.table.stages n) device = gives.caused n route device is h in
       idle_may (stage_at r.table.stages n) cause.place idle cause.may);
   dark = not_both (r.shown n)
       (λ h. sym (goes_busy (stage_at r.table.stages n) (gives.holds.shown n route is h).goes) ∙ idle);
-})
-ended_at routes r n route false resting gives is given busy =
-    let rest : stays (wanted_at r.table.wanted n) (stage_at r.table.stages n) ≡ true =
-    stays_of (wanted_at r.table.wanted n) (are_free r.table.sensors route.blocks.items)
-    (may_begin r.table n (are_free r.table.sensors route.blocks.items)) (stage_at r.table.stages n)
-    (rests_at routes r.table n route resting is) busy in
-    inl (stays_back (stage_at r.table.stages n)
-    (subst (λ (w : Bool). stays w (stage_at r.table.stages n) ≡ true) (gives.off n given).0 rest))
+}))
+ended_at routes r n route false resting gives delays is given busy =
+    let rest : (nat_lt 0 (delay_at r.table.delays n) || stays (wanted_at r.table.wanted n) (stage_at r.table.stages n))
+    ≡ true =
+    stays_of (nat_lt 0 (delay_at r.table.delays n)) (wanted_at r.table.wanted n)
+    (are_free r.table.sensors route.blocks.items) (may_begin r.table n (are_free r.table.sensors route.blocks.items))
+    (stage_at r.table.stages n) (rests_at routes r.table n route resting is) busy in
+    elim (or_cases (nat_lt 0 (delay_at r.table.delays n)) (stays (wanted_at r.table.wanted n) (stage_at r.table.stages n))
+    rest) [
+      | inl kept ↦ inr (inl (delays_keep routes r delays n route is kept))
+      | inr stayed ↦ inl (stays_back (stage_at r.table.stages n)
+          (subst (λ (w : Bool). stays w (stage_at r.table.stages n) ≡ true) (gives.off n given).0 stayed))
+    ]
 
 pub given_end : GivenEnd
 given_end routes events event n route is none given =
@@ -239,4 +247,5 @@ given_end routes events event n route is none given =
     ended_at routes (run_after (run routes events) event) n route
     (is_idle (stage_at (run_after (run routes events) event).table.stages n)) resting
     (after_gives routes (run routes events) event gives)
+    (after_delays routes (run routes events) event (run_delays routes events))
     (ap (λ (x : List Route). slice_get x n) resting.fits.plan ∙ is) given refl

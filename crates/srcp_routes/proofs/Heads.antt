@@ -5,10 +5,10 @@ use Rattle.std.proofs.lemmas.Bool.{and_parts}
 use Rattle.std.specs.Option.{option_map, option_map_or}
 use Rattle.std.specs.Prelude.{if◌then◌else◌, is_some, nat_lt, slice_get}
 use Rattle.srcp_routes.specs.Conflicts.{are_free}
-use Rattle.srcp_routes.specs.Laws.{EnteredAreDark, FallsBehind, has_come, is_entered, is_show, shown_heard}
-use Rattle.srcp_routes.specs.Plan.{Table, stage_at, train_at, wanted_at}
-use Rattle.srcp_routes.specs.Runs.{Run, head_heard, let_go_heard, run, run_after, tail_heard}
-use Rattle.srcp_routes.specs.Stages.{falls, order_of, ready_stage, stop_setting}
+use Rattle.srcp_routes.specs.Laws.{EnteredAreDark, FallsBehind, has_come, is_entered, is_show}
+use Rattle.srcp_routes.specs.Plan.{Table, delay_at, stage_at, train_at, wanted_at}
+use Rattle.srcp_routes.specs.Runs.{Run, head_heard, let_go_heard, run, run_after, shown_heard, tail_heard}
+use Rattle.srcp_routes.specs.Stages.{falls, is_hiding, order_of, ready_stage, stop_setting}
 use Rattle.srcp_routes.specs.Steps.{due, heard, may_begin, ready_at, ready_in, sent}
 use Rattle.srcp_routes.specs.Trains.{has_entered}
 use Rattle.srcp_routes.specs.declared.interlocking.Event.{Event}
@@ -165,6 +165,10 @@ falls_behind routes events event n route signal next is has comes now e =
 
 -- ---- once no order waits
 
+open_shown : (s : Stage) → is_open s ≡ true → is_hiding s ≡ false
+open_shown stage.Hiding h = absurd (cc)
+open_shown other h = refl
+
 dark_at : (routes : List Route) (r : Run) (n : ℕ) (route : Route) → Follows routes r → Holds routes r
     → IsResting routes r.table → slice_get r.table.routes n ≡ Some route → r.let_go n ≡ true → has_come r n ≡ true
     → r.shown n ≡ true → false ≡ true
@@ -180,7 +184,9 @@ dark_at routes r n route follows holds resting is go comes on =
     (are_free r.table.sensors route.blocks.items) (may_begin r.table n (are_free r.table.sensors route.blocks.items))
     (stage_at r.table.stages n)))) ≡ false =
     at_head r.table n route (λ s. is_some (order_of route s) ≡ false) opened.wanted came
-    (none_at routes r.table n route resting is) in
+    (subst (λ (b : Bool). is_some (if b && nat_lt 0 (delay_at r.table.delays n) then None
+    else order_of route (ready_in r.table n route)) ≡ false) (open_shown (stage_at r.table.stages n) opened.opens)
+    (none_at routes r.table n route resting is)) in
     sym none ∙ head_sends route (are_free r.table.sensors route.blocks.items)
     (may_begin r.table n (are_free r.table.sensors route.blocks.items)) (stage_at r.table.stages n) lit.signal opened.opens
     (not_fresh r.table.stages r.table.waiting n (fresh (stage_at r.table.stages n)) refl resting.waits resting.sent)

@@ -4,17 +4,17 @@ use Rattle.std.proofs.Common.{Option, Some, None, List, [], ◌∷◌, length, r
 use Rattle.std.proofs.lemmas.Bool.{and_from, and_parts, cases_eq, eqb-true, or_cases, or_left, or_right}
 use Rattle.std.proofs.lemmas.Option.{slice_get_within}
 use Rattle.std.specs.Option.{option_map_or}
-use Rattle.std.specs.Prelude.{fold, if◌then◌else◌, is_some, option_and_then, slice_get, slice_set}
+use Rattle.std.specs.Prelude.{fold, if◌then◌else◌, is_some, nat_lt, option_and_then, slice_get, slice_set}
 use Rattle.srcp_routes.specs.Conflicts.{are_free, is_occupied, is_vacant}
 use Rattle.srcp_routes.specs.Laws.{LeftEnds, is_unstopped, stays}
-use Rattle.srcp_routes.specs.Plan.{Table, has_passed, is_freed, stage_at, wanted_at}
+use Rattle.srcp_routes.specs.Plan.{Table, delay_at, has_passed, is_freed, stage_at, wanted_at}
 use Rattle.srcp_routes.specs.Runs.{Run, Signals, gives_back, heard_of, is_freed_by, is_passed, left_heard, run, run_after}
 use Rattle.srcp_routes.specs.Runs.{run_start, signals_sent, stopped}
-use Rattle.srcp_routes.specs.Stages.{is_held, is_idle}
+use Rattle.srcp_routes.specs.Stages.{is_held, is_hiding, is_idle}
 use Rattle.srcp_routes.specs.Steps.{answered, due, heard, is_renewed, is_taken_up, may_begin, sent, stage_replied}
 use Rattle.srcp_routes.specs.Steps.{step, told}
 use Rattle.srcp_routes.specs.declared.interlocking.Event.{Event}
-use Rattle.srcp_routes.specs.declared.interlocking.Event.TheVariants.{Ask, Give, Told, Reply, Lost}
+use Rattle.srcp_routes.specs.declared.interlocking.Event.TheVariants.{Ask, Give, Told, Second, Reply, Lost}
 use Rattle.srcp_routes.specs.declared.route.Device.{Device}
 use Rattle.srcp_routes.specs.declared.route.Occupancy.{Occupancy}
 use Rattle.srcp_routes.specs.declared.route.Order.{Order}
@@ -30,7 +30,7 @@ use Rattle.srcp_routes.proofs.Fallen.{behind_left, fallen_left, freed_of, off_of
 use Rattle.srcp_routes.proofs.Followed.{passed_is, word}
 use Rattle.srcp_routes.proofs.Known.{answer_routes, is_section_of}
 use Rattle.srcp_routes.proofs.Pending.{Fits, Pends}
-use Rattle.srcp_routes.proofs.Rest.{IsResting, after_resting, rests_at, stays_back, stays_of}
+use Rattle.srcp_routes.proofs.Rest.{IsResting, after_resting, rests_at, stays_back, stays_else}
 use Rattle.srcp_routes.proofs.Signals.{heard_shown}
 use Rattle.srcp_routes.proofs.Touched.{goes}
 
@@ -42,6 +42,10 @@ AllLeft routes wanted left = (n : ℕ) (route : Route) → slice_get routes n �
 pub goes_busy : (s : Stage) → goes false s ≡ true → is_idle s ≡ false
 goes_busy stage.Idle h = absurd (cc)
 goes_busy other h = refl
+
+goes_shown : (s : Stage) → goes false s ≡ true → is_hiding s ≡ false
+goes_shown stage.Hiding h = absurd (cc)
+goes_shown other h = refl
 
 goes_held : (s : Stage) → goes false s ≡ true → is_held s ≡ true
 goes_held stage.Idle h = absurd (cc)
@@ -206,6 +210,10 @@ heard_left routes r (Reply ok) leaves n route is h =
           (leaves.off n route (sym (routes_same r ok n) ∙ is) left)
       | inr given ↦ nothing_given (r.shown n) _ given
     ]
+heard_left routes r Second leaves n route is h = elim (parts_of r Second n h).1 [
+  | inl left ↦ leaves.off n route is left
+  | inr given ↦ nothing_given (r.shown n) _ given
+]
 heard_left routes r Lost leaves n route is h = absurd (cc)
 
 next_left : (t : Table) (left : Signals) (waits : Bool) (d : Option ℕ) → AllLeft t.routes t.wanted left
@@ -254,9 +262,10 @@ ends_at routes r n route resting leaves is left =
     let going : goes false (stage_at r.table.stages n) ≡ true =
     (leaves.holds.shown n route is (leaves.shows n left)).goes in
     let rest : stays (wanted_at r.table.wanted n) (stage_at r.table.stages n) ≡ true =
-    stays_of (wanted_at r.table.wanted n) (are_free r.table.sensors route.blocks.items)
-    (may_begin r.table n (are_free r.table.sensors route.blocks.items)) (stage_at r.table.stages n)
-    (rests_at routes r.table n route resting is) (goes_busy (stage_at r.table.stages n) going) in
+    stays_else (nat_lt 0 (delay_at r.table.delays n)) (wanted_at r.table.wanted n)
+    (are_free r.table.sensors route.blocks.items) (may_begin r.table n (are_free r.table.sensors route.blocks.items))
+    (stage_at r.table.stages n) (rests_at routes r.table n route resting is)
+    (goes_busy (stage_at r.table.stages n) going) (goes_shown (stage_at r.table.stages n) going) in
     stays_back (stage_at r.table.stages n)
     (subst (λ (w : Bool). stays w (stage_at r.table.stages n) ≡ true) (leaves.off n route is left) rest)
 

@@ -2,10 +2,12 @@ pub mod Again
 pub mod Apart
 pub mod Asked
 pub mod Behind
+pub mod Brakes
 pub mod Causes
 pub mod Costs
 pub mod Crossed
 pub mod Crossings
+pub mod Delays
 pub mod Entered
 pub mod Fallen
 pub mod Falls
@@ -27,11 +29,14 @@ pub mod Pending
 pub mod Places
 pub mod Rest
 pub mod Settling
+pub mod Shines
 pub mod Shown
 pub mod Signals
 pub mod Sound
+pub mod Stops
 pub mod Thrown
 pub mod Throws
 pub mod Told
 pub mod Touched
+pub mod Waits
 pub mod Well

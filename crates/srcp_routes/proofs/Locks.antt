@@ -16,7 +16,7 @@ use Rattle.srcp_routes.specs.Stages.{after_reply, count_of, is_held, is_idle, lo
 use Rattle.srcp_routes.specs.Stages.{turnout_at}
 use Rattle.srcp_routes.specs.Steps.{Stepped, answered, due, heard, may_begin, ready_at, ready_in, sent, stage_replied}
 use Rattle.srcp_routes.specs.declared.interlocking.Event.{Event}
-use Rattle.srcp_routes.specs.declared.interlocking.Event.TheVariants.{Ask, Give, Told, Reply, Lost}
+use Rattle.srcp_routes.specs.declared.interlocking.Event.TheVariants.{Ask, Give, Told, Second, Reply, Lost}
 use Rattle.srcp_routes.specs.declared.route.Device.{Device}
 use Rattle.srcp_routes.specs.declared.route.Order.{Order}
 use Rattle.srcp_routes.specs.declared.route.Order.TheVariants as order
@@ -215,6 +215,7 @@ heard_locked r (Give n) pends all =
 heard_locked r (Told sensor on) pends all = all
 heard_locked r (Reply true) pends all = answer_locked r.table r.order r.locked true r.table.waiting pends all
 heard_locked r (Reply false) pends all = answer_locked r.table r.order r.locked false r.table.waiting pends all
+heard_locked r Second pends all = all
 heard_locked r Lost pends all = λ n route k turnout is at h.
     let not : is_held (stage_at (map lost_stage r.table.routes) n) ≡ false = stage_at-start r.table.routes n in
     let held : is_held (stage_at (map lost_stage r.table.routes) n) ≡ true = locks_held _ k h in

@@ -10,7 +10,7 @@ use Rattle.srcp_routes.specs.Stages.{is_idle}
 use Rattle.srcp_routes.specs.Steps.{after, answered, due, heard, is_renewed, sent, told}
 use Rattle.srcp_routes.specs.declared.conflict.Sensed.{Sensed}
 use Rattle.srcp_routes.specs.declared.interlocking.Event.{Event}
-use Rattle.srcp_routes.specs.declared.interlocking.Event.TheVariants.{Ask, Give, Told, Reply, Lost}
+use Rattle.srcp_routes.specs.declared.interlocking.Event.TheVariants.{Ask, Give, Told, Second, Reply, Lost}
 use Rattle.srcp_routes.specs.declared.route.Device.{Device}
 use Rattle.srcp_routes.proofs.Again.{AllBusy, after_else, none_wanted, wanted_else, wanted_off}
 use Rattle.srcp_routes.proofs.Fallen.{not_both}
@@ -83,6 +83,7 @@ heard_once t (Told sensor now) busy once = λ n h. once n
     (fallen_once t sensor n (is_vacant now && is_occupied t.sensors sensor)
     (behind_once (told t sensor now) (word sensor now) n h))
 heard_once t (Reply ok) busy once = answer_once t ok t.waiting once
+heard_once t Second busy once = once
 heard_once t Lost busy once = λ n h. none_wanted (length t.routes) n
 
 next_once : (t : Table) (waits : Bool) (d : Option ℕ) → AllOnce t

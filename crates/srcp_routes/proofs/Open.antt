@@ -14,7 +14,7 @@ use Rattle.srcp_routes.specs.Steps.{ready_in, stage_replied, told}
 use Rattle.srcp_routes.specs.Trains.{at_start, lets_go, moved}
 use Rattle.srcp_routes.specs.declared.conflict.Sensed.{Sensed}
 use Rattle.srcp_routes.specs.declared.interlocking.Event.{Event}
-use Rattle.srcp_routes.specs.declared.interlocking.Event.TheVariants.{Ask, Give, Told, Reply, Lost}
+use Rattle.srcp_routes.specs.declared.interlocking.Event.TheVariants.{Ask, Give, Told, Second, Reply, Lost}
 use Rattle.srcp_routes.specs.declared.route.Order.{Order}
 use Rattle.srcp_routes.specs.declared.route.Route.{Route}
 use Rattle.srcp_routes.specs.declared.route.Signal.{Signal}
@@ -170,11 +170,12 @@ heard_open t last (Told sensor now) pends all = λ n h.
     followed_open t (told t sensor now) (record { sensor = sensor; occupancy = now }) refl refl refl all n h in
     record { wanted = both.0; opens = both.1 }
 heard_open t last (Reply ok) pends all = replied_open t last ok t.waiting pends all
+heard_open t last Second pends all = λ n h. record { wanted = (all n h).wanted; opens = (all n h).opens }
 heard_open t last Lost pends all = λ n h. some_none _ _ (at-replicate (length t.routes) n None) h
 
 -- ---- the next order
 
-kept_open : (route : Route) (free begins : Bool) (s : Stage) → is_open s ≡ true → fresh s ≡ false
+pub kept_open : (route : Route) (free begins : Bool) (s : Stage) → is_open s ≡ true → fresh s ≡ false
     → is_open (ready_stage route true free begins s) ≡ true
 kept_open route free begins stage.Showing h old = absurd (cc)
 kept_open route free begins stage.Reporting h old = refl

@@ -8,9 +8,10 @@ use Rattle.std.specs.Prelude.{if◌then◌else◌, is_some, slice_get, slice_set
 use Rattle.srcp_routes.specs.Plan.{Table, places, stage_at, start}
 use Rattle.srcp_routes.specs.Runs.{order_heard}
 use Rattle.srcp_routes.specs.Stages.{lost_stage, order_of, retried_stage}
-use Rattle.srcp_routes.specs.Steps.{Stepped, after, answered, due, given, heard, order_at, ready_at, sent, step, stage_replied}
+use Rattle.srcp_routes.specs.Steps.{Stepped, after, answered, due, given, heard, is_kept, order_at, ready_at, sent, step}
+use Rattle.srcp_routes.specs.Steps.{stage_replied}
 use Rattle.srcp_routes.specs.declared.interlocking.Event.{Event}
-use Rattle.srcp_routes.specs.declared.interlocking.Event.TheVariants.{Ask, Give, Told, Reply, Lost}
+use Rattle.srcp_routes.specs.declared.interlocking.Event.TheVariants.{Ask, Give, Told, Second, Reply, Lost}
 use Rattle.srcp_routes.specs.declared.route.Order.{Order}
 use Rattle.srcp_routes.specs.declared.route.Route.{Route}
 use Rattle.srcp_routes.specs.declared.stage.Stage.{Stage}
@@ -39,6 +40,7 @@ heard_fits routes t (Give n) fits =
     record { plan = fits.plan; stages = set_fits routes t n (retried_stage (stage_at t.stages n)) fits }
 heard_fits routes t (Told sensor on) fits = record { plan = fits.plan; stages = fits.stages }
 heard_fits routes t (Reply ok) fits = answer_fits routes t ok t.waiting fits
+heard_fits routes t Second fits = record { plan = fits.plan; stages = fits.stages }
 heard_fits routes t Lost fits =
     record { plan = fits.plan; stages = length-map t.routes lost_stage ∙ ap length fits.plan }
 
@@ -133,6 +135,7 @@ heard_pends t last (Ask n) pends = other_pends t (heard t (Ask n)) last t.waitin
 heard_pends t last (Give n) pends = given_pends t n last t.waiting pends
 heard_pends t last (Told sensor on) pends = other_pends t (heard t (Told sensor on)) last t.waiting refl refl pends
 heard_pends t last (Reply ok) pends = pends_as (heard t (Reply ok)) None _ None (none_waits t ok t.waiting refl) refl
+heard_pends t last Second pends = other_pends t (heard t Second) last t.waiting refl refl pends
 heard_pends t last Lost pends = refl
 
 -- what a route is due to send
@@ -142,22 +145,25 @@ pub record Sends (t : Table) (n : ℕ) : Type 0 where
   pub is : slice_get t.routes n ≡ Some route
   pub orders : order_of route (ready_at t n) ≡ Some order
   pub sent : order_at t n ≡ Some order
+  pub ends : is_kept t n ≡ false
 
 sends_order : (t : Table) (n : ℕ) (route : Route) (x : Option Order) → slice_get t.routes n ≡ Some route
-    → order_of route (ready_at t n) ≡ x → order_at t n ≡ x → is_some x ≡ true → Sends t n
-sends_order t n route None is orders sent some = absurd (cc)
-sends_order t n route (Some o) is orders sent some =
-    record { route = route; order = o; is = is; orders = orders; sent = sent }
+    → order_of route (ready_at t n) ≡ x → order_at t n ≡ x → is_kept t n ≡ false → is_some x ≡ true → Sends t n
+sends_order t n route None is orders sent ends some = absurd (cc)
+sends_order t n route (Some o) is orders sent ends some =
+    record { route = route; order = o; is = is; orders = orders; sent = sent; ends = ends }
 
-sends_route : (t : Table) (n : ℕ) (x : Option Route) → slice_get t.routes n ≡ x
-    → order_at t n ≡ option_and_then (λ route. order_of route (ready_at t n)) x
-    → is_some (option_and_then (λ route. order_of route (ready_at t n)) x) ≡ true → Sends t n
-sends_route t n None is e some = absurd (cc)
-sends_route t n (Some route) is e some = sends_order t n route (order_of route (ready_at t n)) is refl e some
+sends_route : (t : Table) (n : ℕ) (x : Option Route) (kept : Bool) → slice_get t.routes n ≡ x → is_kept t n ≡ kept
+    → order_at t n ≡ (if kept then None else option_and_then (λ route. order_of route (ready_at t n)) x)
+    → is_some (if kept then None else option_and_then (λ route. order_of route (ready_at t n)) x) ≡ true → Sends t n
+sends_route t n x true is ends e some = absurd (cc)
+sends_route t n None false is ends e some = absurd (cc)
+sends_route t n (Some route) false is ends e some =
+    sends_order t n route (order_of route (ready_at t n)) is refl e ends some
 
 pub due_sends : (t : Table) (n : ℕ) → due t ≡ Some n → Sends t n
-due_sends t n e =
-    sends_route t n (slice_get t.routes n) refl refl (found (λ n. is_some (order_at t n)) (places t.routes) n e)
+due_sends t n e = sends_route t n (slice_get t.routes n) (is_kept t n) refl refl refl
+    (found (λ n. is_some (order_at t n)) (places t.routes) n e)
 
 -- once the next order is sent
 abbrev pub AllPends : Option Order → Stepped → Type 0

@@ -11,7 +11,7 @@ use Rattle.srcp_routes.specs.Stages.{after_reply, lost_stage, order_of, ready_st
 use Rattle.srcp_routes.specs.Stages.{stop_setting, turnout_at}
 use Rattle.srcp_routes.specs.Steps.{Stepped, answered, due, heard, may_begin, ready_at, ready_in, sent, stage_replied}
 use Rattle.srcp_routes.specs.declared.interlocking.Event.{Event}
-use Rattle.srcp_routes.specs.declared.interlocking.Event.TheVariants.{Ask, Give, Told, Reply, Lost}
+use Rattle.srcp_routes.specs.declared.interlocking.Event.TheVariants.{Ask, Give, Told, Second, Reply, Lost}
 use Rattle.srcp_routes.specs.declared.route.Order.{Order}
 use Rattle.srcp_routes.specs.declared.route.Order.TheVariants as order
 use Rattle.srcp_routes.specs.declared.route.Route.{Route}
@@ -71,7 +71,7 @@ reply_goes lost route stage.Set o ok going n orders at h = absurd (cc)
 reply_goes lost route stage.Stuck o ok going n orders at h = absurd (cc)
 reply_goes lost route other o ok going n orders at h = let no : false ≡ true = at.goes in absurd (cc)
 
-ready_goes : (lost : Bool) (route : Route) (wanted free begins : Bool) (s : Stage) → GoesAt lost route s
+pub ready_goes : (lost : Bool) (route : Route) (wanted free begins : Bool) (s : Stage) → GoesAt lost route s
     → goes lost (ready_stage route wanted free begins s) ≡ true
 ready_goes lost route true free begins stage.Clearing at = at.goes
 ready_goes lost route false free begins stage.Clearing at = at.goes
@@ -183,6 +183,7 @@ heard_shown r (Give n) pends all = given_goes false r.table n r.shown all
 heard_shown r (Told sensor on) pends all = all
 heard_shown r (Reply true) pends all = answer_goes false r.table r.order r.shown true r.table.waiting pends all
 heard_shown r (Reply false) pends all = answer_goes false r.table r.order r.shown false r.table.waiting pends all
+heard_shown r Second pends all = all
 heard_shown r Lost pends all = λ n route is h. absurd (cc)
 
 pub heard_may_go : (r : Run) (event : Event) → Pends r.table r.order r.table.waiting → AllGo true r.table.routes r.table.stages r.may_go
@@ -192,6 +193,7 @@ heard_may_go r (Give n) pends all = given_goes true r.table n r.may_go all
 heard_may_go r (Told sensor on) pends all = all
 heard_may_go r (Reply true) pends all = answer_goes true r.table r.order r.may_go true r.table.waiting pends all
 heard_may_go r (Reply false) pends all = answer_goes true r.table r.order r.may_go false r.table.waiting pends all
+heard_may_go r Second pends all = all
 heard_may_go r Lost pends all = start_may_go r.table.routes
 
 -- a route shows "go" by its signal

@@ -12,7 +12,7 @@ use Rattle.srcp_routes.specs.Stages.{after_reply, count_of, is_held, lost_stage,
 use Rattle.srcp_routes.specs.Stages.{turnout_at}
 use Rattle.srcp_routes.specs.Steps.{answered, heard, stage_replied}
 use Rattle.srcp_routes.specs.declared.interlocking.Event.{Event}
-use Rattle.srcp_routes.specs.declared.interlocking.Event.TheVariants.{Ask, Give, Told, Reply, Lost}
+use Rattle.srcp_routes.specs.declared.interlocking.Event.TheVariants.{Ask, Give, Told, Second, Reply, Lost}
 use Rattle.srcp_routes.specs.declared.route.Order.{Order}
 use Rattle.srcp_routes.specs.declared.route.Order.TheVariants as order
 use Rattle.srcp_routes.specs.declared.route.Route.{Route}
@@ -220,6 +220,7 @@ heard_thrown r (Give n) pends all =
 heard_thrown r (Told sensor on) pends all = all
 heard_thrown r (Reply true) pends all = answer_thrown r.table r.order r.thrown true r.table.waiting pends all
 heard_thrown r (Reply false) pends all = answer_thrown r.table r.order r.thrown false r.table.waiting pends all
+heard_thrown r Second pends all = all
 heard_thrown r Lost pends all = λ n route k turnout is at h.
     let not : is_held (stage_at (map lost_stage r.table.routes) n) ≡ false = stage_at-start r.table.routes n in
     let held : is_held (stage_at (map lost_stage r.table.routes) n) ≡ true = thrown_held _ k h in

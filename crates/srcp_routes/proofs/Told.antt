@@ -12,7 +12,7 @@ use Rattle.srcp_routes.specs.Stages.{after_reply, count_of, is_held, lost_stage,
 use Rattle.srcp_routes.specs.Stages.{show_setting}
 use Rattle.srcp_routes.specs.Steps.{answered, heard, may_begin, ready_at, ready_in, sent, stage_replied}
 use Rattle.srcp_routes.specs.declared.interlocking.Event.{Event}
-use Rattle.srcp_routes.specs.declared.interlocking.Event.TheVariants.{Ask, Give, Told, Reply, Lost}
+use Rattle.srcp_routes.specs.declared.interlocking.Event.TheVariants.{Ask, Give, Told, Second, Reply, Lost}
 use Rattle.srcp_routes.specs.declared.route.Order.{Order}
 use Rattle.srcp_routes.specs.declared.route.Order.TheVariants as order
 use Rattle.srcp_routes.specs.declared.route.Route.{Route}
@@ -121,7 +121,7 @@ reply_lit route stage.Stopping o false on n orders some h was = absurd (cc)
 reply_lit route other o ok on n orders some h was = absurd (cc)
 
 -- the reply to the order of one route leaves the signals of the others
-not_same : (m n : ℕ) (same : Bool) → (m == n) ≡ same → m ≢ n → same ≡ false
+pub not_same : (m n : ℕ) (same : Bool) → (m == n) ≡ same → m ≢ n → same ≡ false
 not_same m n true e differ = absurd (differ (eqb-true m n e))
 not_same m n false e differ = refl
 
@@ -200,6 +200,7 @@ heard_lit routes r (Reply true) fits pends all =
     answer_lit routes r.table r.order r.lit true r.table.waiting fits pends all
 heard_lit routes r (Reply false) fits pends all =
     answer_lit routes r.table r.order r.lit false r.table.waiting fits pends all
+heard_lit routes r Second fits pends all = all
 heard_lit routes r Lost fits pends all = start_lit r.table.routes
 
 -- ---- the next order

@@ -11,7 +11,7 @@ use Rattle.srcp_routes.specs.Stages.{after_reply, count_of, is_held, lost_stage,
 use Rattle.srcp_routes.specs.Stages.{retried_stage}
 use Rattle.srcp_routes.specs.Steps.{answered, heard, may_begin, ready_at, ready_in, sent, stage_replied}
 use Rattle.srcp_routes.specs.declared.interlocking.Event.{Event}
-use Rattle.srcp_routes.specs.declared.interlocking.Event.TheVariants.{Ask, Give, Told, Reply, Lost}
+use Rattle.srcp_routes.specs.declared.interlocking.Event.TheVariants.{Ask, Give, Told, Second, Reply, Lost}
 use Rattle.srcp_routes.specs.declared.route.Order.{Order}
 use Rattle.srcp_routes.specs.declared.route.Route.{Route}
 use Rattle.srcp_routes.specs.declared.route.Signal.{Signal}
@@ -226,6 +226,7 @@ heard_well t (Give n) all = set_well t.routes t.stages n (retried_stage (stage_a
     (λ route is. retried_well route (stage_at t.stages n) (all n route is)) all
 heard_well t (Told sensor on) all = all
 heard_well t (Reply ok) all = answer_well t ok t.waiting all
+heard_well t Second all = all
 heard_well t Lost all = λ n route is.
     ap (well route) (start_stage t.routes n route is) ∙ lost_well route route.signal refl
 
@@ -296,6 +297,7 @@ heard_sent routes t last (Ask n) fits pends all = all
 heard_sent routes t last (Give n) fits pends all = given_sent t.stages t.waiting n all
 heard_sent routes t last (Told sensor on) fits pends all = all
 heard_sent routes t last (Reply ok) fits pends all = answer_sent routes t last ok t.waiting fits refl pends all
+heard_sent routes t last Second fits pends all = all
 heard_sent routes t last Lost fits pends all = λ m h.
     let not : is_held (stage_at (map lost_stage t.routes) m) ≡ false = stage_at-start t.routes m in
     let held : is_held (stage_at (map lost_stage t.routes) m) ≡ true = fresh_held _ h in

@@ -88,9 +88,10 @@ told_sensor sensor now known = if is_same known.sensor sensor then record known 
 abbrev pub unknown : Device → Sensed
 unknown sensor = record { sensor = sensor; occupancy = occupancy.Unknown }
 
--- the sensors of a route: its blocks, the one that frees it, and its sections
+-- the sensors of a route: its approach, its blocks, the one that frees it, and its sections
 abbrev pub route_sensors : Route → List Sensed
-route_sensors route = map unknown (route.blocks.items ++ (option_to_list route.frees ++ route.sections.items))
+route_sensors route = map unknown (route.approach.items
+    ++ (route.blocks.items ++ (option_to_list route.frees ++ route.sections.items)))
 
 -- those of all routes
 abbrev pub sensors_of : List Route → List Sensed

@@ -3,7 +3,7 @@ use Rattle.std.specs.Prelude.{◌≡◌, ◌≢◌, ◌⊎◌, ℕ, ◌≤◌, B
 use Rattle.std.specs.Prelude.{length, map, nat_lt, fold, is_some, slice_get}
 use Rattle.srcp_routes.specs.Conflicts.{are_free, is_same}
 use Rattle.srcp_routes.specs.Plan.{Table, conflict_at, stage_at, wanted_at}
-use Rattle.srcp_routes.specs.Runs.{Run, head_heard, heard_of, is_freed_by, let_go_heard, run, run_after, stopped}
+use Rattle.srcp_routes.specs.Runs.{Run, head_heard, is_freed_by, let_go_heard, run, run_after, shown_heard}
 use Rattle.srcp_routes.specs.Stages.{is_held, is_idle, show_setting, stop_setting, turnout_at}
 use Rattle.srcp_routes.specs.Steps.{after, course, step}
 use Rattle.srcp_routes.specs.declared.interlocking.Event.{Event}
@@ -127,10 +127,6 @@ ShownAreKept = (routes : List Route) (events : List Event) (n : ℕ) (route : Ro
 abbrev pub is_entered : Run → Event → ℕ → Bool
 is_entered r event n = let_go_heard r event n && nat_lt 0 (head_heard r event n)
 
--- the signal of a route that this session has shown, and not stopped since, once an event came
-abbrev pub shown_heard : Run → Event → ℕ → Bool
-shown_heard r event n = heard_of stopped (λ m. false) r.shown r event n
-
 abbrev pub is_show : Order → Bool
 is_show (order.Show setting) = true
 is_show other = false
@@ -167,11 +163,15 @@ stays wanted (stage.Fallen true) = wanted
 stays wanted stage.Ready = wanted
 stays wanted other = is_unstopped other
 
--- a route waits behind another, which conflicts with it and stays as it is
-pub record IsBehind (routes : List Route) (t : Table) (n : ℕ) : Type 0 where
+-- a route was given back while a train might come, and keeps its locks for some seconds more
+abbrev pub waits_out : Run → ℕ → Bool
+waits_out r n = nat_lt 0 (r.wait n)
+
+-- a route waits behind another, which conflicts with it, and stays as it is or keeps its locks for its delay
+pub record IsBehind (routes : List Route) (t : Table) (keeps : ℕ → Bool) (n : ℕ) : Type 0 where
   pub other : ℕ
   pub conflict : conflict_at routes n other ≡ true
-  pub stays : stays (wanted_at t.wanted other) (stage_at t.stages other) ≡ true
+  pub stays : (keeps other || stays (wanted_at t.wanted other) (stage_at t.stages other)) ≡ true
 
 -- a route is set: its signal was stopped since only if its train has entered
 abbrev pub stands : (entered : Bool) → Stage → Bool
@@ -179,11 +179,12 @@ stands entered stage.Set = true
 stands entered (stage.Fallen true) = entered
 stands entered other = false
 
--- a route is set; or one of its blocks is not free, its own signal could not be stopped, or it is behind another
-abbrev pub IsServed : List Route → Table → (entered : Bool) → ℕ → Route → Type 0
-IsServed routes t entered n route = (stands entered (stage_at t.stages n) ≡ true)
+-- a route is set; or one of its blocks is not free, its own signal could not be stopped, it keeps its locks for its
+-- delay, or it is behind another
+abbrev pub IsServed : List Route → Table → (entered : Bool) → (keeps : ℕ → Bool) → ℕ → Route → Type 0
+IsServed routes t entered keeps n route = (stands entered (stage_at t.stages n) ≡ true)
     ⊎ ((are_free t.sensors route.blocks.items ≡ false)
-    ⊎ ((is_unstopped (stage_at t.stages n) ≡ true) ⊎ IsBehind routes t n))
+    ⊎ ((is_unstopped (stage_at t.stages n) ≡ true) ⊎ ((keeps n ≡ true) ⊎ IsBehind routes t keeps n)))
 
 -- a route is asked for, or is so again before it ended
 abbrev pub is_asked : Table → ℕ → Bool
@@ -194,15 +195,16 @@ abbrev pub WantedAreServed : Type 0
 WantedAreServed = (routes : List Route) (events : List Event) (event : Event) (n : ℕ) (route : Route)
     → slice_get routes n ≡ Some route → (after (course routes events) event).waiting ≡ None
     → is_asked (after (course routes events) event) n ≡ true
-    → IsServed routes (after (course routes events) event) (has_come (run_after (run routes events) event) n) n route
+    → IsServed routes (after (course routes events) event) (has_come (run_after (run routes events) event) n)
+    (waits_out (run_after (run routes events) event)) n route
 
 -- so it is of each route that is asked for by events alone
 abbrev pub AskedAreServed : Type 0
 AskedAreServed = (routes : List Route) (events : List Event) (event : Event) (n : ℕ) (route : Route)
     → slice_get routes n ≡ Some route → (run_after (run routes events) event).table.waiting ≡ None
     → (run_after (run routes events) event).asks n ≡ true
-    → IsServed routes (run_after (run routes events) event).table (has_come (run_after (run routes events) event) n) n
-    route
+    → IsServed routes (run_after (run routes events) event).table (has_come (run_after (run routes events) event) n)
+    (waits_out (run_after (run routes events) event)) n route
 
 -- once no order waits for its reply, each route that was given back while its signal shows "go" has a signal that could
 -- not be stopped: all others were stopped, whatever was asked for since
@@ -237,14 +239,26 @@ pub record IsEnded (r : Run) (n : ℕ) : Type 0 where
   pub unlocked : (device : Device) → r.locked n device ≡ false
   pub dark : r.shown n ≡ false
 
--- once no order waits for its reply, each route that was given back and not asked for since has ended, or has a signal
--- that could not be stopped
+-- as long as a route keeps its locks for its delay, no order ends it
+abbrev pub ApproachLocked : Type 0
+ApproachLocked = (routes : List Route) (events : List Event) (n : ℕ) (last : Order)
+    → (run routes events).table.waiting ≡ Some n → (run routes events).order ≡ Some last
+    → waits_out (run routes events) n ≡ true → ends last ≡ false
+
+-- and each of its turnouts is locked
+abbrev pub ApproachKept : Type 0
+ApproachKept = (routes : List Route) (events : List Event) (n : ℕ) (route : Route) (place : ℕ) (turnout : Setting)
+    → waits_out (run routes events) n ≡ true → slice_get routes n ≡ Some route → turnout_at route place ≡ Some turnout
+    → (run routes events).locked n turnout.device ≡ true
+
+-- once no order waits for its reply, each route that was given back and not asked for since has ended, keeps its locks
+-- for its delay, or has a signal that could not be stopped
 abbrev pub GivenEnd : Type 0
 GivenEnd = (routes : List Route) (events : List Event) (event : Event) (n : ℕ) (route : Route)
     → slice_get routes n ≡ Some route → (run_after (run routes events) event).table.waiting ≡ None
     → (run_after (run routes events) event).given n ≡ true
     → (is_unstopped (stage_at (run_after (run routes events) event).table.stages n) ≡ true)
-    ⊎ IsEnded (run_after (run routes events) event) n
+    ⊎ ((waits_out (run_after (run routes events) event) n ≡ true) ⊎ IsEnded (run_after (run routes events) event) n)
 
 -- there is a number of replies after which no order waits, whichever of them accept and whichever refuse
 pub record Settles (t : Table) : Type 0 where

@@ -1,11 +1,11 @@
 -- The table of all routes: their stages, which are wanted, which are asked for again before they ended, their trains,
--- what is known of sensors, and whose order waits.
+-- their delays, what is known of sensors, and whose order waits.
 use Rattle.std.specs.Prelude.{ℕ, Bool, false, not, ◌&&◌, ◌||◌, Option, Some, None, List, map, if◌then◌else◌}
 use Rattle.std.specs.Prelude.{length, replicate, option_and_then, slice_get, unwrap_or}
 use Rattle.std.specs.List.{list_all, range_with_len}
 use Rattle.std.specs.Option.{option_map, option_map_or}
-use Rattle.srcp_routes.specs.Conflicts.{conflicts, is_same, sensors_of}
-use Rattle.srcp_routes.specs.Stages.{is_held, is_idle, lost_stage}
+use Rattle.srcp_routes.specs.Conflicts.{are_free, conflicts, is_same, sensors_of}
+use Rattle.srcp_routes.specs.Stages.{is_held, is_idle, is_stopping, lost_stage}
 use Rattle.srcp_routes.specs.Trains.{at_start, is_through, lets_go, moved}
 use Rattle.srcp_routes.specs.declared.conflict.Sensed.{Sensed}
 use Rattle.srcp_routes.specs.declared.route.Device.{Device}
@@ -21,6 +21,8 @@ pub record Table : Type 0 where
   pub again : List Bool
   -- the train that a route has let go, until the route is given back
   pub trains : List (Option Train)
+  -- for how many seconds a route that was given back keeps its locks
+  pub delays : List ℕ
   pub sensors : List Sensed
   pub waiting : Option ℕ
 
@@ -32,6 +34,7 @@ start routes = record {
   wanted = replicate (length routes) false;
   again = replicate (length routes) false;
   trains = replicate (length routes) None;
+  delays = replicate (length routes) 0;
   sensors = sensors_of routes;
   waiting = None;
 }
@@ -53,6 +56,9 @@ wanted_at wanted n = unwrap_or (slice_get wanted n) false
 
 abbrev pub train_at : List (Option Train) → ℕ → Option Train
 train_at trains n = unwrap_or (slice_get trains n) None
+
+abbrev pub delay_at : List ℕ → ℕ → ℕ
+delay_at delays n = unwrap_or (slice_get delays n) 0
 
 -- a route is not in the way of another: they do not conflict, or it is idle
 abbrev pub lets : List Route → List Stage → ℕ → ℕ → Bool
@@ -77,6 +83,16 @@ still_wanted t sensor =
 abbrev pub train_sent : List Route → List (Option Train) → Stage → ℕ → Option Train
 train_sent routes trains stage n =
     if option_map_or (λ route. lets_go route stage) (slice_get routes n) false then Some at_start else train_at trains n
+
+-- the signal of a route is stopped though a train may have seen "go": its approach is not known to be free
+abbrev pub stops_short : Route → List Sensed → Stage → Bool
+stops_short route sensors stage = is_stopping stage && not (are_free sensors route.approach.items)
+
+-- the delay of a route as it sends the order of a stage
+abbrev pub delay_sent : List Route → List Sensed → List ℕ → Stage → ℕ → ℕ
+delay_sent routes sensors delays stage n = option_map_or
+    (λ (route : Route). if stops_short route sensors stage then route.delay else delay_at delays n)
+    (slice_get routes n) (delay_at delays n)
 
 -- the train of a route once something was told of a sensor
 abbrev pub train_told : List Route → List Sensed → List (Option Train) → Sensed → ℕ → Option Train

@@ -1,12 +1,13 @@
 -- What events, orders and their replies alone say of the layout, without a look at stages.
 use Rattle.std.specs.Prelude.{ℕ, ◌+◌, ◌-◌, ◌==◌, Bool, true, false, not, ◌&&◌, ◌||◌, Option, Some, None, List, fold}
 use Rattle.std.specs.Prelude.{if◌then◌else◌, is_some, length, nat_lt, option_and_then, slice_get}
+use Rattle.std.specs.List.{list_all}
 use Rattle.std.specs.Option.{option_map_or, option_or}
 use Rattle.srcp_routes.specs.Conflicts.{is_same, is_taken, is_vacant}
 use Rattle.srcp_routes.specs.Plan.{Table, start}
 use Rattle.srcp_routes.specs.Steps.{Stepped, step}
 use Rattle.srcp_routes.specs.declared.interlocking.Event.{Event}
-use Rattle.srcp_routes.specs.declared.interlocking.Event.TheVariants.{Ask, Give, Told, Reply, Lost}
+use Rattle.srcp_routes.specs.declared.interlocking.Event.TheVariants.{Ask, Give, Told, Second, Reply, Lost}
 use Rattle.srcp_routes.specs.declared.route.Device.{Device}
 use Rattle.srcp_routes.specs.declared.route.Occupancy.{Occupancy}
 use Rattle.srcp_routes.specs.declared.route.Order.{Order}
@@ -31,7 +32,7 @@ Signals = ℕ → Bool
 -- which sensors are free or occupied; which routes have let a train go and were not given back since, how many sections
 -- that train has entered, and how many it has passed; which routes were given back since this session has shown their
 -- signals, and before these are stopped; which routes are asked for, and which were given back or refused and not asked
--- for since; which routes this session has told to be set
+-- for since; which routes this session has told to be set; for how many seconds each route keeps its locks
 pub record Run : Type 0 where
   pub table : Table
   pub order : Option Order
@@ -49,6 +50,7 @@ pub record Run : Type 0 where
   pub asks : Signals
   pub given : Signals
   pub told : Signals
+  pub wait : ℕ → ℕ
 
 -- the locks once the order of a route is accepted: a lock is granted
 abbrev pub granted : Locks → ℕ → Order → Locks
@@ -182,6 +184,7 @@ asks_heard r (Ask m) n = (n == m) || r.asks n
 asks_heard r (Give m) n = not (n == m) && r.asks n
 asks_heard r (Told sensor now) n =
     not (is_passed r (Told sensor now) n) && (not (is_vacant now && is_freed_by r.table.routes n sensor) && r.asks n)
+asks_heard r Second n = r.asks n
 asks_heard r (Reply true) n = r.asks n
 asks_heard r (Reply false) n = not (option_map_or (λ m. n == m) r.table.waiting false) && r.asks n
 asks_heard r Lost n = false
@@ -213,6 +216,44 @@ abbrev pub told_sent : Signals → Option Order → Option ℕ → Signals
 told_sent told (Some (order.Report number true)) waiting m = option_map_or (λ n. m == n) waiting false || told m
 told_sent told other waiting m = told m
 
+-- the signals that this session has shown, and not stopped since, once an event came
+abbrev pub shown_heard : Run → Event → Signals
+shown_heard r event = heard_of stopped (λ m. false) r.shown r event
+
+-- an order of a route is sent that stops its signal
+abbrev pub is_stop : Option Order → Bool
+is_stop (Some (order.Stop setting)) = true
+is_stop other = false
+
+abbrev pub stops_now : Option Order → Option ℕ → ℕ → Bool
+stops_now sent waiting n = is_stop sent && option_map_or (λ m. n == m) waiting false
+
+-- each sensor of the approach of a route was last told to be 0
+abbrev pub is_approach_free : List Route → (Device → Bool) → ℕ → Bool
+is_approach_free routes free n =
+    option_map_or (λ (route : Route). list_all free route.approach.items) (slice_get routes n) true
+
+-- the delay of a route by the plan
+abbrev pub delay_of : List Route → ℕ → ℕ
+delay_of routes n = option_map_or (λ (route : Route). route.delay) (slice_get routes n) 0
+
+-- a train may have seen "go" and come: this session has shown the signal of a route that was given back, and the
+-- approach is not free
+abbrev pub may_come : Run → Event → ℕ → Bool
+may_come r event n = shown_heard r event n
+    && (not (let_go_heard r event n) && not (is_approach_free r.table.routes (sensed_heard is_vacant r.free event) n))
+
+-- for how many seconds a route keeps its locks once an event came
+abbrev pub wait_heard : Run → Event → ℕ → ℕ
+wait_heard r Second n = r.wait n - 1
+wait_heard r Lost n = 0
+wait_heard r other n = r.wait n
+
+-- and once an order is sent: for its delay, if its signal is stopped then, though a train may come
+abbrev pub wait_sent : Run → Event → Option Order → Option ℕ → ℕ → ℕ
+wait_sent r event sent waiting n =
+    if stops_now sent waiting n && may_come r event n then delay_of r.table.routes n else wait_heard r event n
+
 -- the order whose reply has not come once an event came
 abbrev pub order_heard : Option Order → Event → Option Order
 order_heard last (Reply ok) = None
@@ -240,6 +281,7 @@ goes_on r event stepped = record {
   asks = asks_heard r event;
   given = given_heard r event;
   told = told_sent (told_heard r event) stepped.order stepped.table.waiting;
+  wait = wait_sent r event stepped.order stepped.table.waiting;
 }
 
 abbrev pub run_after : Run → Event → Run
@@ -264,6 +306,7 @@ run_start routes = record {
   asks = λ m. false;
   given = λ m. true;
   told = λ m. false;
+  wait = λ m. 0;
 }
 
 -- a run of a plan over a list of events

@@ -118,6 +118,16 @@ abbrev pub is_idle : Stage → Bool
 is_idle stage.Idle = true
 is_idle other = false
 
+-- the signal of a route that is given back is to be stopped
+abbrev pub is_stopping : Stage → Bool
+is_stopping stage.Stopping = true
+is_stopping other = false
+
+-- a route that was given back is to be told not to be set, and then to give up its locks
+abbrev pub is_hiding : Stage → Bool
+is_hiding stage.Hiding = true
+is_hiding other = false
+
 -- a route holds locks, or may be about to
 abbrev pub is_held : Stage → Bool
 is_held stage.Idle = false

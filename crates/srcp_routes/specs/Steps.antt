@@ -1,15 +1,15 @@
 -- What each event makes of the table of all routes, and which order is sent then.
-use Rattle.std.specs.Prelude.{ℕ, Bool, true, false, ◌&&◌, ◌||◌, Option, Some, None, List, find, map, fold}
-use Rattle.std.specs.Prelude.{if◌then◌else◌, slice_get, slice_set, option_and_then, is_some}
+use Rattle.std.specs.Prelude.{ℕ, ◌-◌, Bool, true, false, ◌&&◌, ◌||◌, Option, Some, None, List, find, map, fold}
+use Rattle.std.specs.Prelude.{if◌then◌else◌, nat_lt, slice_get, slice_set, option_and_then, is_some}
 use Rattle.std.specs.Option.{option_map_or}
 use Rattle.srcp_routes.specs.Conflicts.{are_free, is_occupied, is_vacant, told_sensor}
-use Rattle.srcp_routes.specs.Plan.{Table, start, places, stage_at, train_at, train_sent, trains_behind, wanted_at}
-use Rattle.srcp_routes.specs.Plan.{is_clear, still_wanted, wanted_behind}
-use Rattle.srcp_routes.specs.Stages.{after_reply, falls, is_idle, order_of, ready_stage, retried_stage}
+use Rattle.srcp_routes.specs.Plan.{Table, delay_at, delay_sent, start, places, stage_at, train_at, train_sent}
+use Rattle.srcp_routes.specs.Plan.{is_clear, still_wanted, trains_behind, wanted_at, wanted_behind}
+use Rattle.srcp_routes.specs.Stages.{after_reply, falls, is_hiding, is_idle, order_of, ready_stage, retried_stage}
 use Rattle.srcp_routes.specs.Trains.{has_entered}
 use Rattle.srcp_routes.specs.declared.conflict.Sensed.{Sensed}
 use Rattle.srcp_routes.specs.declared.interlocking.Event.{Event}
-use Rattle.srcp_routes.specs.declared.interlocking.Event.TheVariants.{Ask, Give, Told, Reply, Lost}
+use Rattle.srcp_routes.specs.declared.interlocking.Event.TheVariants.{Ask, Give, Told, Second, Reply, Lost}
 use Rattle.srcp_routes.specs.declared.route.Device.{Device}
 use Rattle.srcp_routes.specs.declared.route.Occupancy.{Occupancy}
 use Rattle.srcp_routes.specs.declared.route.Order.{Order}
@@ -36,9 +36,14 @@ ready_in t n route = let free = are_free t.sensors route.blocks.items in
 abbrev pub ready_at : Table → ℕ → Stage
 ready_at t n = option_map_or (ready_in t n) (slice_get t.routes n) stage.Idle
 
+-- a route that was given back keeps its locks for its delay
+abbrev pub is_kept : Table → ℕ → Bool
+is_kept t n = is_hiding (stage_at t.stages n) && nat_lt 0 (delay_at t.delays n)
+
 -- the order that a route may send next
 abbrev pub order_at : Table → ℕ → Option Order
-order_at t n = option_and_then (λ route. order_of route (ready_at t n)) (slice_get t.routes n)
+order_at t n =
+    if is_kept t n then None else option_and_then (λ route. order_of route (ready_at t n)) (slice_get t.routes n)
 
 -- the first route that may send an order
 abbrev pub due : Table → Option ℕ
@@ -51,6 +56,7 @@ sent t (Some n) = record {
   table = record t {
     stages = slice_set t.stages n (ready_at t n);
     trains = slice_set t.trains n (train_sent t.routes t.trains (ready_at t n) n);
+    delays = slice_set t.delays n (delay_sent t.routes t.sensors t.delays (ready_at t n) n);
     waiting = Some n;
   };
   order = order_at t n;
@@ -93,6 +99,10 @@ followed t told = record t {
   trains = trains_behind t (wanted_behind t told) told;
 }
 
+-- a second less of a delay
+abbrev pub less : ℕ → ℕ
+less delay = delay - 1
+
 -- the stage of a route after the reply to its order
 abbrev pub stage_replied : Table → ℕ → Bool → Stage
 stage_replied t n ok =
@@ -121,12 +131,13 @@ answered t ok n = record t {
   waiting = None;
 }
 
--- a route is asked for or given back, a sensor is told, or the order that waits is accepted or refused; as a session
--- begins all is as at the start, but what is known of sensors
+-- a route is asked for or given back, a sensor is told, a second has passed, or the order that waits is accepted or
+-- refused; as a session begins all is as at the start, but what is known of sensors
 abbrev pub heard : Table → Event → Table
 heard t (Ask n) = asked t n
 heard t (Give n) = given t n
 heard t (Told sensor now) = followed (told t sensor now) (record { sensor = sensor; occupancy = now })
+heard t Second = record t { delays = map less t.delays }
 heard t (Reply ok) = option_map_or (answered t ok) t.waiting t
 heard t Lost = record (start t.routes) { sensors = t.sensors }
 

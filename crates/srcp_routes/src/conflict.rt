@@ -185,6 +185,7 @@ fn add_all(sensors: &mut Vec<Sensed>, devices: &[Device]) -> Result<(), AllocErr
 fn add_sensors(sensors: &mut Vec<Sensed>, route: &Route) -> Result<(), AllocError>
     ensures { OnOk result (sensors.new.items ≡ sensors.old.items ++ route_sensors route.now) }
 {
+    add_all(sensors, &route.approach)?;
     add_all(sensors, &route.blocks)?;
     if let Some(sensor) = route.frees {
         sensors.push(unknown(sensor))?;

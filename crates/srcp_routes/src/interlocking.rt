@@ -2,12 +2,15 @@
 
 ghost use Rattle.std.specs.Prelude.{◌≡◌, ◌<◌, IfOk, IfSome, length};
 ghost use Rattle.srcp_routes.specs.Plan.{start};
-ghost use Rattle.srcp_routes.specs.Steps.{due, followed, given, heard, is_renewed, may_begin, next, order_at, ready_at};
-ghost use Rattle.srcp_routes.specs.Steps.{ready_in, stage_replied, step, told};
-ghost use Rattle.srcp_routes.specs.declared.interlocking.Event.TheVariants.{Ask, Lost, Reply};
+ghost use Rattle.srcp_routes.specs.Steps.{due, followed, given, heard, may_begin, next, order_at};
+ghost use Rattle.srcp_routes.specs.Steps.{ready_at, ready_in, step, told};
+ghost use Rattle.srcp_routes.specs.declared.interlocking.Event.TheVariants.{Ask, Lost};
+
+mod replying;
 
 use crate::conflict::{Sensed, are_free, is_occupied, sense, sensors_of};
-use crate::stage::{after_reply, fall, lost, order_of, ready, retried};
+use crate::delay::{count_second, delay_sent, is_kept};
+use crate::stage::{fall, lost, order_of, ready, retried};
 use crate::table::{
     follow, give_freed, is_clear, lost_stages, stage_at, train_at, train_sent, wanted_at,
 };
@@ -26,6 +29,8 @@ pub enum Event {
     Give(usize),
     /// A sensor is told to be free or occupied, or is not known any more.
     Told(Device, Occupancy),
+    /// A second has passed.
+    Second,
     /// The order that was sent is accepted, or refused.
     Reply(bool),
     /// A command session has begun: the locks of the session before are gone.
@@ -50,6 +55,7 @@ pub struct Interlocking {
     wanted: Vec<bool>,
     again: Vec<bool>,
     trains: Vec<Option<Train>>,
+    delays: Vec<u32>,
     sensors: Vec<Sensed>,
     waiting: Option<usize>,
 }
@@ -67,13 +73,15 @@ impl Model for Interlocking {
       wanted = t.wanted.items;
       again = t.again.items;
       trains = t.trains.items;
+      delays = t.delays.items;
       sensors = t.sensors.items;
       waiting = t.waiting;
     } };
 
     ghost invariant = { λ t.
         (length t.stages.items ≡ length t.routes.items) × (length t.wanted.items ≡ length t.routes.items)
-        × (length t.again.items ≡ length t.routes.items) × (length t.trains.items ≡ length t.routes.items) };
+        × (length t.again.items ≡ length t.routes.items) × (length t.trains.items ≡ length t.routes.items)
+        × (length t.delays.items ≡ length t.routes.items) };
 }
 
 impl Interlocking {
@@ -89,6 +97,7 @@ impl Interlocking {
         let wanted = vec![in alloc; false; routes.len()]?;
         let again = vec![in alloc; false; routes.len()]?;
         let trains = vec![in alloc; None; routes.len()]?;
+        let delays = vec![in alloc; 0; routes.len()]?;
         let sensors = sensors_of(alloc, &routes)?;
         Ok(Interlocking {
             routes,
@@ -96,6 +105,7 @@ impl Interlocking {
             wanted,
             again,
             trains,
+            delays,
             sensors,
             waiting: None,
         })
@@ -136,6 +146,9 @@ impl Interlocking {
     fn order_at(&self, n: usize) -> Option<Order>
         ensures { result ≡ order_at self.now n }
     {
+        if is_kept(&self.stages, &self.delays, n) {
+            return None;
+        }
         order_of(self.routes.get(n)?, self.ready_at(n))
     }
 
@@ -165,8 +178,10 @@ impl Interlocking {
         let order = self.order_at(n);
         let stage = self.ready_at(n);
         let train = train_sent(&self.routes, &self.trains, stage, n);
+        let delay = delay_sent(&self.routes, &self.sensors, &self.delays, stage, n);
         self.stages[n] = stage;
         self.trains[n] = train;
+        self.delays[n] = delay;
         self.waiting = Some(n);
         order
     }
@@ -215,46 +230,6 @@ impl Interlocking {
         follow(routes, sensors, told, &mut self.wanted, &mut self.trains);
     }
 
-    /// Returns the stage of the route at a place after the reply to the route's order.
-    fn stage_replied(&self, n: usize, ok: bool) -> Stage
-        ensures { result ≡ stage_replied self.now n ok }
-    {
-        match self.routes.get(n) {
-            Some(route) => after_reply(route, stage_at(&self.stages, n), ok),
-            None => Stage::Idle,
-        }
-    }
-
-    /// Returns whether the route at a place ends by the reply to the route's order, and was asked for again before.
-    fn is_renewed(&self, n: usize, ok: bool) -> bool
-        ensures { result ≡ is_renewed self.now ok n }
-    {
-        ok && self.stage_replied(n, ok).is_idle() && wanted_at(&self.again, n)
-    }
-
-    /// Notes the reply to the waiting order.
-    fn reply(&mut self, ok: bool)
-        ensures { self.new ≡ heard self.old (Reply ok) }
-    {
-        let Some(n) = self.waiting else {
-            return;
-        };
-        if n < self.routes.len() {
-            let stage = self.stage_replied(n, ok);
-            let is_renewed = self.is_renewed(n, ok);
-            self.stages[n] = stage;
-            if is_renewed {
-                self.wanted[n] = true;
-                self.again[n] = false;
-            } else if !ok {
-                self.wanted[n] = false;
-                self.again[n] = false;
-                self.trains[n] = None;
-            }
-        }
-        self.waiting = None;
-    }
-
     /// Notes that a command session has begun.
     #[tactic(auto, using(crate::proofs::Loops::lost_more, crate::proofs::Loops::lost_all))]
     fn lose(&mut self)
@@ -266,6 +241,7 @@ impl Interlocking {
         self.wanted.fill(false);
         self.again.fill(false);
         self.trains.fill(None);
+        self.delays.fill(0);
         self.waiting = None;
     }
 
@@ -280,6 +256,7 @@ impl Interlocking {
                 self.tell(sensor, occupancy);
                 self.follow(Sensed { sensor, occupancy });
             }
+            Event::Second => count_second(&mut self.delays),
             Event::Reply(ok) => self.reply(ok),
             Event::Lost => self.lose(),
         }

@@ -1,9 +1,9 @@
 //! Laws of every list of events. Each function does nothing: its `ensures` is the law.
 
-ghost use Rattle.srcp_routes.specs.Laws.{AskedAreServed, CrossApart, EnteredAreDark, FallsBehind, FreedBehind};
-ghost use Rattle.srcp_routes.specs.Laws.{GivenEnd, HeldStandAlone, LeftEnds, OneSensorFreesNone, RepliesSettle};
-ghost use Rattle.srcp_routes.specs.Laws.{SetIsTold, ShownAreKept, ShownStand, ShowsAreFree, ThrowsAreLocked};
-ghost use Rattle.srcp_routes.specs.Laws.{WantedAreServed};
+ghost use Rattle.srcp_routes.specs.Laws.{ApproachKept, ApproachLocked, AskedAreServed, CrossApart, EnteredAreDark};
+ghost use Rattle.srcp_routes.specs.Laws.{FallsBehind, FreedBehind, GivenEnd, HeldStandAlone, LeftEnds};
+ghost use Rattle.srcp_routes.specs.Laws.{OneSensorFreesNone, RepliesSettle, SetIsTold, ShownAreKept, ShownStand};
+ghost use Rattle.srcp_routes.specs.Laws.{ShowsAreFree, ThrowsAreLocked, WantedAreServed};
 
 /// States for any plan and any list of events: while a route is held, each other route that conflicts is idle. No two
 /// routes that conflict are held at once.
@@ -46,8 +46,9 @@ pub fn set_is_told()
 
 /// States for any plan and any list of events what is true once no order waits for a reply. Each route that is asked
 /// for is set, or waits for a reason. A set route shows "go" if the route has a signal, unless a train has come into
-/// the first section. A block of the route is not free, or the route's own signal could not be stopped.
-/// Or the route is behind a conflicting route, which is asked for and held, or has a signal that could not be stopped.
+/// the first section. A block of the route is not free, or the route's own signal could not be stopped. Or the route
+/// keeps its locks for its delay. Or the route is behind a conflicting route, which is asked for and held, keeps its
+/// locks for its delay, or has a signal that could not be stopped.
 pub fn wanted_are_served()
     ensures { WantedAreServed }
 {}
@@ -95,10 +96,20 @@ pub fn falls_behind()
 /// States for any plan and any list of events what is true of a route that was given back and not asked for since. A
 /// refused order of the route gives the route back too, and so does the begin of a command session. So does the train
 /// that the route has let go, once it has passed, or as the sensor falls that frees the route. Once no order waits for
-/// a reply, the route holds no lock, and the signal of the route was stopped if it was shown. Or the signal could not
-/// be stopped.
+/// a reply, the route holds no lock, and the signal of the route was stopped if it was shown. Or the route keeps its
+/// locks for its delay, or the signal could not be stopped.
 pub fn given_end()
     ensures { GivenEnd }
+{}
+
+/// States for any plan and any list of events what is true of a route whose signal was stopped while a train might
+/// come. The route was given back while its signal showed "go", and as the stop was sent, its approach was not known to
+/// be free. Then the route keeps its locks for its delay: no order of the route unlocks a turnout, or tells that the
+/// route is not set (`ends`). Each of its turnouts is locked (`kept`). The delay is counted in seconds that are told
+/// from that order on. The delay ends early only as a command session begins.
+pub fn approach_locked()
+    ensures ends { ApproachLocked }
+    ensures kept { ApproachKept }
 {}
 
 /// States for any plan and any list of events that replies settle the routes. If nothing but replies comes then, some

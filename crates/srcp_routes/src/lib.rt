@@ -6,6 +6,7 @@
 #![tactic(auto)]
 
 mod conflict;
+mod delay;
 mod interlocking;
 pub mod laws;
 mod route;

@@ -78,7 +78,7 @@ impl Occupancy {
 /// Describes a route.
 ///
 /// ```
-/// let route = Route { number: 1, turnouts, blocks, signal: None, frees: None, sections, pieces };
+/// let route = Route { number: 1, turnouts, blocks, signal: None, frees: None, sections, approach, delay: 30, pieces };
 /// routes.push(route)?;
 /// let mut interlocking = Interlocking::new(alloc, routes)?;
 /// ```
@@ -97,6 +97,11 @@ pub struct Route {
     /// The sensors along the route's way, in the order in which a train comes to them. A train that has passed each of
     /// them but the last gives the route back.
     pub sections: Vec<Device>,
+    /// The sensors before the signal, at which a train may have seen "go".
+    pub approach: Vec<Device>,
+    /// For how many seconds the route keeps its locks if its signal is stopped while the approach is not known to be
+    /// free.
+    pub delay: u32,
     /// The pieces of track of the route's way, by their numbers in a drawing.
     pub pieces: Vec<usize>,
 }

@@ -1,8 +1,8 @@
 //! The stages of a route: the order at each stage, and what comes after the order.
 
 ghost use Rattle.std.specs.Prelude.{◌≡◌};
-ghost use Rattle.srcp_routes.specs.Stages.{after_reply, by_signal, falls, first_stage, is_held, is_idle};
-ghost use Rattle.srcp_routes.specs.Stages.{leaving_stage, left_stage, lost_stage, order_of, ready_stage};
+ghost use Rattle.srcp_routes.specs.Stages.{after_reply, by_signal, falls, first_stage, is_held, is_hiding, is_idle};
+ghost use Rattle.srcp_routes.specs.Stages.{is_stopping, leaving_stage, left_stage, lost_stage, order_of, ready_stage};
 ghost use Rattle.srcp_routes.specs.Stages.{retried_stage, show_setting, stop_setting, turned_back};
 
 use crate::{Order, Route, Setting, Signal};
@@ -75,6 +75,20 @@ impl Stage {
         ensures { result ≡ is_idle self }
     {
         matches!(self, Stage::Idle)
+    }
+
+    /// Returns whether the signal is to be stopped, since the route is given back.
+    pub(crate) fn is_stopping(self) -> bool
+        ensures { result ≡ is_stopping self }
+    {
+        matches!(self, Stage::Stopping)
+    }
+
+    /// Returns whether a route that was given back is to be reported as not set, and to give up its locks then.
+    pub(crate) fn is_hiding(self) -> bool
+        ensures { result ≡ is_hiding self }
+    {
+        matches!(self, Stage::Hiding)
     }
 
     /// Returns whether a route holds locks at this stage, or may be about to.

@@ -6,12 +6,6 @@ mod keepers;
 #[cfg(test)]
 mod layouts;
 #[cfg(test)]
-mod moments;
-#[cfg(test)]
-mod pairs;
-#[cfg(test)]
-mod refusals;
-#[cfg(test)]
 mod served;
 #[cfg(test)]
 mod told;

@@ -1,11 +1,10 @@
 //! A registry for tests, kept by both kinds of keepers, and the answers to sessions.
 
-use crate::told::{push_begun, push_due, push_end, push_line, push_reply, push_rows};
-use srcp_info::{Code, Reply, Row};
+use crate::told::{push_begun, push_due, push_end, push_line, push_rows};
+use srcp_info::Row;
 use srcp_rules::{Bus, Flat, Layout, Nested, Rows};
 use std::alloc::Global;
 use std::marker::Model;
-use std::process::Abort;
 use std::test::Fail;
 
 /// Makes a bus with power, 10239 locomotives, 2044 accessories of two ports and 2 feedback ports.
@@ -155,108 +154,4 @@ impl Served {
         push_rows(flat, &self.flat)?;
         push_rows(nested, &self.nested)
     }
-
-    /// Asserts what follows each of these lines, in order.
-    fn tells(&mut self, rt: &impl Abort, alloc: Global, lines: &[Line]) -> Result<(), Fail> {
-        for (session, moment, line, want) in lines {
-            let told = self.tell(alloc, *session, *moment, line)?;
-            assert_eq!(rt; told.as_slice(), want.as_bytes(), "at {line}");
-        }
-        Ok(())
-    }
-}
-
-/// A session, a moment, a line of the session, and what follows then. This is the reply, the line of each change, and a
-/// last line if the session is to end. A line `go` begins the session, `end` ends the session, and `now` is the moment
-/// alone.
-pub(crate) type Line = (u32, u64, &'static str, &'static str);
-
-/// The session 1 begins.
-const GO: Line = (1, 0, "go", "0.000 101 INFO 0 SESSION 1 COMMAND\n");
-
-/// The session 2 begins.
-pub(crate) const GO_2: Line = (2, 0, "go", "0.000 101 INFO 0 SESSION 2 COMMAND\n");
-
-pub(crate) const INIT_GL_3_AT_0: Line = (
-    1,
-    0,
-    "INIT 1 GL 3 N 1 28 0",
-    "0.000 200 OK\n0.000 101 INFO 1 GL 3 N 1 28 0\n0.000 100 INFO 1 GL 3 1 0 0\n",
-);
-
-pub(crate) const INIT_GL_3_AT_1: Line = (
-    1,
-    1000,
-    "INIT 1 GL 3 N 1 28 0",
-    "1.000 200 OK\n1.000 101 INFO 1 GL 3 N 1 28 0\n1.000 100 INFO 1 GL 3 1 0 0\n",
-);
-
-pub(crate) const INIT_GA_5_AT_0: Line = (
-    1,
-    0,
-    "INIT 1 GA 5 N",
-    "0.000 200 OK\n0.000 101 INFO 1 GA 5 N\n0.000 100 INFO 1 GA 5 0 0\n0.000 100 INFO 1 GA 5 1 0\n",
-);
-
-pub(crate) const INIT_GA_5_AT_1: Line = (
-    1,
-    1000,
-    "INIT 1 GA 5 N",
-    "1.000 200 OK\n1.000 101 INFO 1 GA 5 N\n1.000 100 INFO 1 GA 5 0 0\n1.000 100 INFO 1 GA 5 1 0\n",
-);
-
-pub(crate) const LOCK_GA_5_AT_0: Line = (
-    1,
-    0,
-    "SET 1 LOCK GA 5 0",
-    "0.000 200 OK\n0.000 100 INFO 1 LOCK GA 5 0 1\n",
-);
-
-/// The lock ends after 60 seconds.
-pub(crate) const LOCK_GL_3_FOR_60_AT_1: Line = (
-    1,
-    1000,
-    "SET 1 LOCK GL 3 60",
-    "1.000 200 OK\n1.000 100 INFO 1 LOCK GL 3 60 1\n",
-);
-
-/// Begins the session 1 over these buses, and asserts what follows each of these lines, in order.
-pub(crate) fn tells_over(
-    rt: &impl Abort,
-    alloc: Global,
-    buses: &[Bus],
-    lines: &[Line],
-) -> Result<(), Fail> {
-    let mut served = Served::open(alloc, buses)?;
-    served.tells(rt, alloc, &[GO])?;
-    served.tells(rt, alloc, lines)
-}
-
-/// Asserts the same over bus 1 alone.
-pub(crate) fn tells(rt: &impl Abort, alloc: Global, lines: &[Line]) -> Result<(), Fail> {
-    tells_over(rt, alloc, &[bus(1)], lines)
-}
-
-/// Asserts over these buses that each line of the session 1 at the moment 1000 is refused with the given code, and
-/// nothing else follows.
-pub(crate) fn refuses_over(
-    rt: &impl Abort,
-    alloc: Global,
-    buses: &[Bus],
-    lines: &[(&str, Code)],
-) -> Result<(), Fail> {
-    let mut served = Served::open(alloc, buses)?;
-    served.tells(rt, alloc, &[GO])?;
-    for (line, code) in lines {
-        let said = served.say(alloc, 1, 1000, line.as_bytes())?;
-        let mut want = Vec::new(alloc);
-        push_reply(&mut want, 1000, &Reply::Refused(*code))?;
-        assert_eq!(rt; said.as_slice(), want.as_slice(), "at {line}");
-    }
-    Ok(())
-}
-
-/// Asserts the same over bus 1 alone.
-pub(crate) fn refuses(rt: &impl Abort, alloc: Global, lines: &[(&str, Code)]) -> Result<(), Fail> {
-    refuses_over(rt, alloc, &[bus(1)], lines)
 }

@@ -2,8 +2,6 @@
 #![tactic(auto)]
 
 #[cfg(test)]
-mod hosting;
-#[cfg(test)]
 mod lingering;
 #[cfg(test)]
 mod loopback;

@@ -2,9 +2,8 @@
 
 use crate::network::{Happens, Network, at};
 use crate::record::{closed_at, shuts, took_of};
-use crate::scene::{AMPLE, all_served, serve_events, took_lines};
+use crate::scene::{AMPLE, all_served, serve_events};
 use std::test::Fail;
-use std::vec::Vec;
 
 /// How many bytes are sent to a session, begun and ended by commands in the first ten milliseconds: the welcome line
 /// and two replies.
@@ -39,28 +38,5 @@ fn keeps_who_was_closed_for_its_time(rt: HostRuntime) -> Result<(), Fail> {
             "{after} ms after its time"
         );
     }
-    Ok(())
-}
-
-#[test]
-fn gives_up_nobody_who_is_owed_for_one_who_is_not(rt: HostRuntime) -> Result<(), Fail> {
-    let mut events = Vec::new(rt.alloc());
-    events.push(at(0, 1, Happens::Connects))?;
-    events.push(at(0, 1, Happens::Receives(50)))?;
-    events.push(at(0, 1, Happens::Sends(b"GO\nTERM 0 SESSION\n")))?;
-    for number in 2..202 {
-        events.push(at(20, number, Happens::Connects))?;
-    }
-    events.push(at(4_000, 1, Happens::Receives(AMPLE)))?;
-    let (served, door) = serve_events(rt.alloc(), Network::new(rt.alloc(), &events, false))?;
-    assert_eq!(rt; served, all_served(65));
-    let lines = "srcp_server 1.0; SRCP 0.8.4; SRCPOTHER 0.8.3\n200 OK GO 1\n200 OK\n";
-    assert_eq!(rt;
-        took_lines(rt.alloc(), &door, 1)?.as_slice(),
-        lines.as_bytes()
-    );
-    // The first peer turned away was dropped for a later peer.
-    let first = closed_at(door.system().entries()?, 66).unwrap_or(u64::MAX);
-    assert!(rt; first < 1_000, "it was closed at {first} ms");
     Ok(())
 }

@@ -4,7 +4,7 @@ use srcp_core::Core;
 use srcp_host::serve_sockets;
 use srcp_rules::{Flat, Layout};
 use srcp_serve::{Door, DoorFault, Served};
-use srcp_sockets::{ListenFault, SocketDoor};
+use srcp_sockets::SocketDoor;
 use std::cell::Cell;
 use std::io;
 use std::io::{ErrorKind, Read, Write};
@@ -84,15 +84,6 @@ fn answers_a_client(rt: HostRuntime) -> Result<(), Fail> {
     let mut heard = [0u8; 63];
     client.read_exact(&mut heard)?;
     assert_eq!(rt; heard.as_slice(), BOTH_LINES);
-    Ok(())
-}
-
-#[test]
-fn refuses_a_port_that_is_taken(rt: HostRuntime) -> Result<(), Fail> {
-    let port = free_port(&rt)?;
-    let _door = SocketDoor::listen(&rt, rt.alloc(), port, Still)?;
-    let taken = SocketDoor::listen(&rt, rt.alloc(), port, Still);
-    assert_eq!(rt; taken.err(), Some(ListenFault::Port));
     Ok(())
 }
 

@@ -96,11 +96,3 @@ pub(crate) fn shuts(entries: &[Entry], number: u32) -> usize {
         .filter(|entry| matches!(entry, Entry::Shuts(socket) if *socket == number))
         .count()
 }
-
-/// Returns how many waits had no limit.
-pub(crate) fn sleeps(entries: &[Entry]) -> usize {
-    entries
-        .iter()
-        .filter(|entry| matches!(entry, Entry::Waits(None)))
-        .count()
-}

@@ -1,47 +1,10 @@
 //! Serving over a network in memory.
 
 use crate::network::{Happens, Network, at};
-use crate::record::{lines_in, most_lines, sleeps, time_of, took_of};
+use crate::record::{lines_in, most_lines, time_of, took_of};
 use crate::scene::{AMPLE, all_served, serve_events, took_lines};
 use std::test::Fail;
 use std::vec::Vec;
-
-#[test]
-fn serves_all_who_come(rt: HostRuntime) -> Result<(), Fail> {
-    let events = [
-        at(0, 1, Happens::Connects),
-        at(0, 2, Happens::Connects),
-        at(0, 2, Happens::Receives(AMPLE)),
-        at(3, 3, Happens::Connects),
-        at(3, 3, Happens::Receives(AMPLE)),
-        at(3, 3, Happens::Sends(b"GO\n")),
-        at(5, 1, Happens::Sends(b"GO\nGET 1 POW")),
-        at(9, 1, Happens::Receives(AMPLE)),
-        at(12, 1, Happens::Sends(b"ER\n")),
-    ];
-    let (served, door) = serve_events(rt.alloc(), Network::new(rt.alloc(), &events, false))?;
-    assert_eq!(rt; served, all_served(3));
-    for (client, lines) in [
-        (
-            1,
-            "srcp_server 1.0; SRCP 0.8.4; SRCPOTHER 0.8.3\n200 OK GO 2\n100 INFO 1 POWER OFF\n",
-        ),
-        (2, "srcp_server 1.0; SRCP 0.8.4; SRCPOTHER 0.8.3\n"),
-        (
-            3,
-            "srcp_server 1.0; SRCP 0.8.4; SRCPOTHER 0.8.3\n200 OK GO 1\n",
-        ),
-    ] {
-        assert_eq!(rt;
-            took_lines(rt.alloc(), &door, client)?.as_slice(),
-            lines.as_bytes(),
-            "to client {client}"
-        );
-    }
-    // Then nothing happens, and no event wakes the server.
-    assert!(rt; sleeps(door.system().entries()?) > 300);
-    Ok(())
-}
 
 #[test]
 fn writes_what_a_socket_takes(rt: HostRuntime) -> Result<(), Fail> {
@@ -123,22 +86,6 @@ fn hands_out_no_input_while_it_makes_up_a_stall(rt: HostRuntime) -> Result<(), F
     let off = time_of(entries, 1, b" 100 INFO 1 GA 6 0 0\n").unwrap_or(0);
     let lasted = off.saturating_sub(on);
     assert!(rt; (200..210).contains(&lasted), "it is on for {lasted} ms");
-    Ok(())
-}
-
-#[test]
-fn turns_away_who_finds_no_slot(rt: HostRuntime) -> Result<(), Fail> {
-    let mut events = Vec::new(rt.alloc());
-    for number in 1..71 {
-        events.push(at(0, number, Happens::Connects))?;
-    }
-    for number in 65..71 {
-        events.push(at(30, number, Happens::HalfCloses))?;
-    }
-    let (served, door) = serve_events(rt.alloc(), Network::new(rt.alloc(), &events, false))?;
-    assert_eq!(rt; served, all_served(64));
-    // The peers turned away go, and then no event wakes the server.
-    assert!(rt; sleeps(door.system().entries()?) > 200);
     Ok(())
 }
 

@@ -1,4 +1,4 @@
-//! A signal box over a stream. The cases of `tests/cases` run the box with more plans.
+//! A signal box over a stream that fails. The cases of `tests/cases` run the box with more plans.
 
 use crate::memory_io::{Sink, Source};
 use crate::streams::written;
@@ -55,18 +55,6 @@ fn run<R: Read, W: Write>(alloc: Global, reader: &mut R, writer: &mut W) -> Resu
 }
 
 #[test]
-fn sets_a_route_by_pieces_of_its_lines(rt: HostRuntime) -> Result<(), Fail> {
-    let (input, wanted) = first(rt.alloc(), STEPS.len())?;
-    for at_once in [1, 7, 1000] {
-        let mut lines = Source::new(input.as_slice(), at_once, false);
-        let mut output = Vec::new(rt.alloc());
-        run(rt.alloc(), &mut lines, &mut output)?;
-        assert_eq!(rt; output.as_slice(), wanted.as_slice());
-    }
-    Ok(())
-}
-
-#[test]
 fn sends_what_the_lines_gave_if_a_read_fails(rt: HostRuntime) -> Result<(), Fail> {
     for count in 0..STEPS.len() + 1 {
         let (mut input, wanted) = first(rt.alloc(), count)?;
@@ -89,31 +77,6 @@ fn sends_a_prefix_if_a_write_fails(rt: HostRuntime) -> Result<(), Fail> {
         let answer = run(rt.alloc(), &mut lines, &mut sink);
         assert_eq!(rt; answer, written(room, wanted.as_slice()));
         assert_eq!(rt; sink.taken.as_slice(), &wanted.as_slice()[..room]);
-    }
-    Ok(())
-}
-
-/// Returns the start of a session, followed by a reply in a line of this length.
-fn replied(alloc: Global, length: usize) -> Result<Vec<u8>, AllocError> {
-    let mut input = Vec::from_slice(alloc, b"0.000 200 OK GO 7\n0.100 200 OK ")?;
-    for _ in 13..length {
-        input.push(b'x')?;
-    }
-    input.push(b'\n')?;
-    Ok(input)
-}
-
-#[test]
-fn passes_over_a_long_line(rt: HostRuntime) -> Result<(), Fail> {
-    for (length, wanted) in [
-        (1000, b"SET 1 GA 40 0 1 250\nSET 9 FB 1 0\n".as_slice()),
-        (1001, b"SET 1 GA 40 0 1 250\n".as_slice()),
-    ] {
-        let input = replied(rt.alloc(), length)?;
-        let mut lines = Source::new(input.as_slice(), 7, false);
-        let mut output = Vec::new(rt.alloc());
-        run(rt.alloc(), &mut lines, &mut output)?;
-        assert_eq!(rt; output.as_slice(), wanted);
     }
     Ok(())
 }

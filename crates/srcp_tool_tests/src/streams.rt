@@ -1,10 +1,8 @@
-//! Streams failing after some bytes, and inputs ending after some.
+//! Streams that fail after some bytes.
 
 use crate::memory_io::{Sink, Source};
-use crate::mirroring::ROWS;
 use srcp_rules::{Flat, Layout};
-use srcp_script::{Cause, ScriptFault, read_script};
-use srcp_tool::{ToolFault, check, check_plan, mirror, read_config, replay};
+use srcp_tool::{ToolFault, check, mirror, read_config, replay};
 use std::alloc::Global;
 use std::test::Fail;
 use std::vec::Vec;
@@ -22,9 +20,17 @@ const CONFIG: &[u8] = b"bus = [{number = 9, groups = [\"GA\"], ga_max = 1}]";
 
 const CHECKED: &[u8] = b"port 4303\nbus 9 GA 1\n";
 
-const PLAN: &[u8] = b"bus = 9\nroute = [{number = 1, turnouts = [[1, 12, 1]]}]";
-
-const TABLE: &[u8] = b"bus 9\nroute 1\n";
+/// A listing of nine rows.
+const ROWS: &[u8] = b"0.000 101 INFO 0 SESSION 1 COMMAND
+0.000 100 INFO 1 POWER OFF
+1.000 101 INFO 1 GL 3 N 1 28 2
+1.000 100 INFO 1 GL 3 1 0 0 0 0
+1.000 101 INFO 1 GA 5 M
+1.000 100 INFO 1 GA 5 0 0
+1.000 100 INFO 1 GA 5 1 0
+0.000 100 INFO 1 FB 1 0
+1.000 100 INFO 1 LOCK GL 3 60 1
+";
 
 /// Makes a reader to give these bytes and then fail.
 fn failing(bytes: &[u8]) -> Source<'_> {
@@ -77,6 +83,17 @@ fn mirrors_nothing_if_a_read_fails(rt: HostRuntime) {
 }
 
 #[test]
+fn tells_a_failing_read_before_a_wrong_line(rt: HostRuntime) {
+    let mut lines = Source::new(b"GET 1 POWER\n", 10, true);
+    let mut output = Vec::new(rt.alloc());
+    assert_eq!(rt;
+        mirror(rt.alloc(), &mut lines, &mut output),
+        Err(ToolFault::Input)
+    );
+    assert!(rt; output.is_empty());
+}
+
+#[test]
 fn mirrors_a_prefix_if_a_write_fails(rt: HostRuntime) {
     for room in 0..ROWS.len() + 1 {
         let mut lines = ending(ROWS);
@@ -105,16 +122,6 @@ fn checks_a_prefix_if_a_write_fails(rt: HostRuntime) {
     }
 }
 
-#[test]
-fn checks_a_prefix_of_a_plan_if_a_write_fails(rt: HostRuntime) {
-    for room in 0..TABLE.len() + 1 {
-        let mut sink = Sink::new(rt.alloc(), room, room % 2 == 0);
-        let answer = check_plan(rt.alloc(), PLAN, &mut sink);
-        assert_eq!(rt; answer, written(room, TABLE));
-        assert_eq!(rt; sink.taken.as_slice(), &TABLE[..room]);
-    }
-}
-
 /// Returns the result of writing a text into `room` bytes.
 pub(crate) fn written(room: usize, text: &[u8]) -> Result<(), ToolFault> {
     if room < text.len() {
@@ -122,45 +129,4 @@ pub(crate) fn written(room: usize, text: &[u8]) -> Result<(), ToolFault> {
     } else {
         Ok(())
     }
-}
-
-#[test]
-fn reads_each_prefix_of_a_script(rt: HostRuntime) {
-    let fronts = [
-        (b"".as_slice(), Ok(0)),
-        (b"o".as_slice(), Err((1, Cause::Word))),
-        (b"op".as_slice(), Err((1, Cause::Word))),
-        (b"ope".as_slice(), Err((1, Cause::Word))),
-        (b"open".as_slice(), Ok(1)),
-        (b"open\n".as_slice(), Ok(1)),
-        (b"open\ns".as_slice(), Err((2, Cause::Word))),
-        (b"open\nsh".as_slice(), Err((2, Cause::Word))),
-        (b"open\nshu".as_slice(), Err((2, Cause::Word))),
-        (b"open\nshut".as_slice(), Err((2, Cause::Number))),
-        (b"open\nshut ".as_slice(), Err((2, Cause::Number))),
-        (b"open\nshut 1".as_slice(), Ok(2)),
-        (b"open\nshut 1\n".as_slice(), Ok(2)),
-    ];
-    for (front, wanted) in fronts {
-        let answer = match read_script(rt.alloc(), front) {
-            Ok(events) => Ok(events.len()),
-            Err(ScriptFault { line, cause }) => Err((line, cause)),
-        };
-        assert_eq!(rt; answer, wanted);
-    }
-}
-
-#[test]
-fn mirrors_each_prefix_of_a_listing(rt: HostRuntime) -> Result<(), Fail> {
-    let mut whole = b"".as_slice();
-    for count in 0..ROWS.len() + 1 {
-        let front = &ROWS[..count];
-        if front.ends_with(b"\n") {
-            whole = front;
-        }
-        let mut output = Vec::new(rt.alloc());
-        mirror(rt.alloc(), &mut ending(front), &mut output)?;
-        assert_eq!(rt; output.as_slice(), whole);
-    }
-    Ok(())
 }

@@ -79,7 +79,7 @@ module _ (buses : List Bus) (layout : IsLayout buses) (events : List Event) (key
   unsent_is : overran its.conn (history buses w) ≡ false → its_place.unsent ≡ unsent its.conn
   unsent_is still = place_unsent its.reader (history buses w) its.conn (sym its_over ∙ still)
 
-  lent_is : unsent_at key held ≡ lent buses w n
+  pub lent_is : unsent_at key held ≡ lent buses w n
   lent_is =
       cc (its.place, by _ refl, its.opened)
     where

@@ -7,10 +7,15 @@ use Rattle.srcp_core.proofs.Names.{World, accepted, counted, course, history, if
 use Rattle.srcp_core.proofs.Names.{let_out, unsent_at, and-false, cases_Bool, ⊎_elim}
 use Rattle.std.specs.Prelude.{option_map}
 use Rattle.srcp_feed.specs.declared.Next.{Next}
+use Rattle.srcp_core.proofs.Names.{absent_fault, fault, Bytes, Shut, Piece, giving, false≢true, ◌<◌, ◌≤◌, le-ltb, is_none, Option, subst}
+use Rattle.std.specs.Prelude.{IsSome}
 use Rattle.srcp_core.specs.Agrees.{lends_none}
+use Rattle.srcp_core.specs.Course.{bytes_fault as course_fault, fault_of}
+use Rattle.srcp_core.specs.Lends.{AcceptsAndLends, IsOpenAfter}
+use Rattle.srcp_core.specs.Laws.{without_events}
 use Rattle.srcp_core.proofs.Agreement.AnswersAgree.{lends_agrees}
 use Rattle.srcp_core.proofs.CourseLaws.RoomInTwoParts.{left_after}
-use Rattle.srcp_core.proofs.CourseLaws.RoomsAddUp.{rooms_add_up, takes_within, shut_after}
+use Rattle.srcp_core.proofs.CourseLaws.RoomsAddUp.{rooms_add_up, rooms_are_one, takes_within, shut_after}
 use Rattle.srcp_core.proofs.CourseLaws.LinesHaveBytes.{first_nil, owed_full}
 use Rattle.srcp_core.proofs.Agreement.NumbersAndKeys.{numbered_with}
 use Rattle.srcp_core.proofs.CourseLaws.RoomSettles.{sends_replies}
@@ -131,7 +136,7 @@ module _ (buses : List Bus) (layout : IsLayout buses) (events : List Event) (n :
           ∙ ap (λ t. t || (nat_le (length conn.out) conn.taken && (not conn.info || is_settled conn (history buses w) (rows buses w))))
           (sym e)
 
-  lends_none_is : is_nil (lent buses (course buses (events ++ Room n 0 ∷ [])) n) ≡ lends_none buses w n
+  pub lends_none_is : is_nil (lent buses (course buses (events ++ Room n 0 ∷ [])) n) ≡ lends_none buses w n
   lends_none_is = ap is_nil lent_is ∙ nothing ∙ ap (λ o. option_map_or (lends_none_of buses w) o true) (sym opened)
 
 -- what is lent is empty exactly where the course says so
@@ -140,3 +145,57 @@ pub none_agrees : (key : ℕ) (held : Held)
 none_agrees key held buses events keys n layout named s =
     let its = found_at buses (λ n fed. fed) keys held (course buses events) n key s named in
     cc (lends_agrees key held buses events keys n layout named s, lends_none_is buses layout events n its.conn its.there its.up)
+
+-- ---- what an open connection accepts and lends
+
+module _ (buses : List Bus) (events : List Event) (n : ℕ) where
+  abbrev after : World
+  after = course buses events
+
+  -- a connection that accepts no bytes as a piece accepts any of at most 256
+  pub takes_piece : (piece : Piece) → is_none (fault buses after (Bytes n (giving []))) ≡ true → length piece.bytes ≤ 256
+      → fault buses after (Bytes n piece) ≡ None
+  takes_piece piece e few = by (open_connection after n) e
+    where
+      of : (over : Bool) (left : List ℕ) → is_none (fault_of over left []) ≡ true → fault_of over left piece.bytes ≡ None
+      of true left e = cc
+      of false (_ ∷ _) e = cc
+      of false [] e = cc (le-ltb 256 _ few)
+
+      by : (o : Option Connection) → is_none (course_fault buses after o []) ≡ true
+          → course_fault buses after o piece.bytes ≡ None
+      by None e = cc
+      by (Some conn) e = of _ (unsent conn) e
+
+  shuts_open : IsOpenAfter buses events n → fault buses after (Shut n) ≡ None
+  shuts_open some = by (open_connection after n) some
+    where
+      by : (o : Option Connection) → IsSome o → absent_fault buses o ≡ None
+      by None h = absurd (false≢true h)
+      by (Some conn) h = refl
+
+  -- what is said of the connection of that number follows, if it is open
+  of_open : (P : Type 0) → IsOpenAfter buses events n
+      → ((conn : Connection) → numbered n after.connections ≡ Some conn → is_open conn ≡ true → P) → P
+  of_open P some law = by (numbered n after.connections) refl some
+    where
+      up : (conn : Connection) (t : Bool) → is_open conn ≡ t → IsSome (if t then Some conn else None) → is_open conn ≡ true
+      up conn true e h = e
+      up conn false e h = absurd (false≢true h)
+
+      by : (o : Option Connection) → numbered n after.connections ≡ o → IsSome (if_open o) → P
+      by None e h = absurd (false≢true h)
+      by (Some conn) e h = law conn e (up conn (is_open conn) refl h)
+
+pub accepts_and_lends : (buses : List Bus) → AcceptsAndLends buses
+accepts_and_lends buses = record {
+  takes = takes_piece buses;
+  shuts = shuts_open buses;
+  lends_none = λ layout events n some. of_open buses events n _ some (lends_none_is buses layout events n);
+  lent_and_sent = λ layout events n count some more.
+      let whole : 0 + count ≡ count = omega arith in
+      of_open buses events n _ some (λ conn there up.
+      subst (λ (k : ℕ). without_events (course buses (events ++ Room n 0 ∷ Room n count ∷ []))
+      ≡ without_events (course buses (events ++ Room n k ∷ []))) whole
+      (rooms_are_one buses layout events n 0 count conn there up more));
+}

@@ -20,10 +20,10 @@ line_on key piece before granted = line_answered key granted before (next_reques
 
 -- ---- the lines of a piece, with what a run would have told of them
 
-record IsRead (n key : ℕ) (piece : List ℕ) (grants : List Bool) (first_r : Recording) (first : Held) (reached : ℕ × Held) : Type 0 where
-  told : Recording
-  keys : told.keys ≡ first_r.keys
-  reads : ReadsWith grants n key piece first_r first reached.0 told reached.1
+pub record IsRead (n key : ℕ) (piece : List ℕ) (grants : List Bool) (first_r : Recording) (first : Held) (reached : ℕ × Held) : Type 0 where
+  pub told : Recording
+  pub keys : told.keys ≡ first_r.keys
+  pub reads : ReadsWith grants n key piece first_r first reached.0 told reached.1
 
 -- what memory answered to them, with which it is, whatever a run has told before
 record AreRead (key : ℕ) (piece : List ℕ) (first : Held) (reached : ℕ × Held) : Type 0 where

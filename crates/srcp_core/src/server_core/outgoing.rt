@@ -13,9 +13,8 @@ impl<'a, R: Rows> Core<'a, R> {
     ghost use Rattle.std.specs.Borrow.{sem};
     ghost use Rattle.srcp_core.specs.Lending.{EndsAs};
 
-    /// Lends the unsent bytes of a connection, from the connection's own buffer and without a copy. If an information
-    /// session has none, the next line is appended first, at most 126 bytes. Once all replies are sent, at most a
-    /// single line is lent. Laws: `lent`, `lends`, `lends_none`, `lends_line` and `there` of `laws::calls_follow`.
+    /// Lends the unsent bytes of a connection. If an information session has none, the next line is appended first.
+    /// Laws: `lent`, `lends`, `lends_none`, `lends_line` and `there` of `laws::calls_follow`.
     ///
     /// # Errors
     /// Returns `NoSuch` if there is no such connection, and then nothing changes.
@@ -35,7 +34,7 @@ impl<'a, R: Rows> Core<'a, R> {
 
     /// Appends the next line of an information session, if nothing is unsent. Returns false if nothing is unsent then.
     #[inline(always)]
-    fn fill(&mut self, conn: usize) -> Result<bool, CoreFault>
+    pub(crate) fn fill(&mut self, conn: usize) -> Result<bool, CoreFault>
         ensures absent { IsErr result ↔ (at self.old conn ≡ None) }
         ensures fault { IfErr result (λ fault. fault ≡ CoreFault.NoSuch) }
         ensures core { self.new ≡ let_out conn self.old }
@@ -48,6 +47,15 @@ impl<'a, R: Rows> Core<'a, R> {
         Ok(connection.fill(&self.rows))
     }
 
+    /// Lends the unsent bytes of an open connection.
+    #[inline(always)]
+    pub(crate) fn unsent(&self, conn: usize) -> &[u8]
+        requires { IsSome (at self.now conn) }
+        ensures { result.now ≡ unsent_at conn self.now }
+    {
+        self.connections[conn].unsent()
+    }
+
     /// Returns what `fill` would append, if anything.
     pub(crate) fn item(&self, conn: usize) -> Option<Next>
         ensures { result ≡ item_at conn self.now }
@@ -55,8 +63,7 @@ impl<'a, R: Rows> Core<'a, R> {
         self.connections.get(conn)?.item(&self.rows)
     }
 
-    /// Drops the first `count` unsent bytes of a connection, since the peer took them. The connection has to be open,
-    /// and to have at least `count` unsent bytes. Laws: `sent`, `none_sent` and `lent_and_sent` of
+    /// Drops the first `count` unsent bytes of a connection. Laws: `sent`, `none_sent` and `lent_and_sent` of
     /// `laws::calls_follow`.
     pub fn sent(&mut self, conn: usize, count: usize)
         requires open { IsSome (at self.old conn) }

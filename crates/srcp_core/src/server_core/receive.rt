@@ -12,14 +12,11 @@ use srcp_info::MOST_IN_PIECE;
 use srcp_rules::Rows;
 
 impl<'a, R: Rows> Core<'a, R> {
-    /// Reads new bytes of a connection, of any part of a line, and answers each line that ends in them. A line before
-    /// the session is of the handshake of SRCP 0.8, a line after it a command. Lines to an information session are
-    /// dropped. Laws: `accepted`, `refused`, `bytes` and `takes` of `laws::calls_follow`.
+    /// Reads new bytes of a connection, and answers each line that ends in them. Laws: `accepted`, `refused`, `bytes`
+    /// and `takes` of `laws::calls_follow`.
     ///
     /// # Errors
-    /// Returns the first of these that applies, and then nothing changes: `NoSuch` if there is no such connection,
-    /// `Closing` if the connection ended or overran, `Busy` while bytes are unsent, `PieceTooLong` for more than 256
-    /// bytes.
+    /// Returns the cause of `bytes_fault`, and then nothing changes.
     pub fn receive(&mut self, conn: usize, piece: &[u8]) -> Result<(), CoreFault>
         ensures fault { MatchResult result (λ _. bytes_fault conn piece.now self.old ≡ None)
             (λ fault. bytes_fault conn piece.now self.old ≡ Some fault) }

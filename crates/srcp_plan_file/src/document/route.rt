@@ -3,7 +3,7 @@
 ghost use Rattle.std.specs.Prelude.{◌≡◌, [], map, option_map};
 ghost use Rattle.toml.specs.View.{table_view, view as data_of};
 ghost use Rattle.srcp_layout_file.specs.Gives.{Gives, Shows};
-ghost use Rattle.srcp_plan_file.specs.Document.{array_if, frees_at, new_signal, new_turnout, pieces_at};
+ghost use Rattle.srcp_plan_file.specs.Document.{array_if, delay_at, frees_at, new_signal, new_turnout, pieces_at};
 ghost use Rattle.srcp_plan_file.specs.Document.{route_numbered, sensor_in, sensors_at, sensors_in, signal_at};
 ghost use Rattle.srcp_plan_file.specs.Document.{signal_in, turnout_in, turnouts_in};
 ghost use Rattle.srcp_plan_file.specs.Plan.{drawn, planned_route};
@@ -11,11 +11,17 @@ ghost use Rattle.srcp_plan_file.specs.Plan.{drawn, planned_route};
 use crate::device::{sensor_of, signal_of, turnout_of};
 use crate::plan::{Field, PlanFault};
 use crate::tracks::{Tracks, text_at};
-use srcp_layout_file::member::{array_in, value_at};
+use srcp_layout_file::member::{array_in, ranged, value_at};
 use srcp_routes::{Device, Route, Setting, Signal, has_accessory};
 use std::alloc::Global;
 use std::vec::Vec;
 use toml::{Table, Value};
+
+/// For how many seconds a route keeps its locks at most: ten minutes.
+const LONGEST_DELAY: u32 = 600;
+
+/// For how many seconds a route keeps its locks if the plan does not say.
+const DEFAULT_DELAY: u32 = 30;
 
 /// Reads the keys of the route of this number.
 pub(super) fn route_numbered(
@@ -34,6 +40,8 @@ pub(super) fn route_numbered(
     let signal = signal_at(own, number, &turnouts, members)?;
     let frees = frees_at(own, number, members)?;
     let sections = sensors_at(alloc, own, number, Field::Sections, members)?;
+    let approach = sensors_at(alloc, own, number, Field::Approach, members)?;
+    let delay = delay_at(number, members)?;
     let pieces = pieces_at(alloc, number, tracks, &turnouts, members)?;
     Ok(Route {
         number,
@@ -42,6 +50,8 @@ pub(super) fn route_numbered(
         signal,
         frees,
         sections,
+        approach,
+        delay,
         pieces,
     })
 }
@@ -187,6 +197,21 @@ fn frees_at(own: u8, number: u32, members: &Table) -> Result<Option<Device>, Pla
     match value_at(members, Field::Frees) {
         Some(value) => Ok(Some(sensor_in(own, number, Field::Frees, value)?)),
         None => Ok(None),
+    }
+}
+
+/// Reads for how many seconds a route keeps its locks.
+fn delay_at(number: u32, members: &Table) -> Result<u32, PlanFault>
+    ensures { result ≡ delay_at number (table_view members.now) }
+{
+    match value_at(members, Field::Delay) {
+        Some(value) => ranged(
+            value,
+            1,
+            LONGEST_DELAY,
+            PlanFault::Beyond(number, Field::Delay),
+        ),
+        None => Ok(DEFAULT_DELAY),
     }
 }
 

@@ -1,10 +1,17 @@
 -- The first route that may send an order is found.
-use Rattle.std.proofs.Common.{◌≡◌, ◌<◌, ◌≤◌, true, length, sym, arith}
+use borrow.Author.Count.{below_more}
+use Rattle.std.proofs.Common.{◌≡◌, ◌<◌, ◌≤◌, ℕ, false, true, length, sym, arith}
 use Rattle.std.specs.Prelude.{is_some}
 use Rattle.std.proofs.lemmas.Grind.{common_steps}
 use Rattle.srcp_routes.proofs.Loops.{first_found, none_passes}
 use Rattle.srcp_routes.specs.Steps.{order_at}
 use Rattle.srcp_routes.proofs.interlocking.Interlocking.due.Goals as goal
+
+pub loop-n-preserved : goal.loop-n-preserved
+loop-n-preserved c =
+    let none : is_some (order_at c.args.self.now c.loop-n.n) ≡ false =
+    grind (arith, common_steps, c.is_some.ensures, c.order_at.ensures, c.if-is_some.false) in
+    below_more (λ (k : ℕ). is_some (order_at c.args.self.now k) ≡ false) c.loop-n.n c.loop-n.invariant none
 
 pub returns-then-is_some-clause-first : goal.returns-then-is_some-clause-first
 returns-then-is_some-clause-first c =

@@ -12,5 +12,6 @@ invariant-loop-n l =
     × (l.self-inside.wanted ≡ l.initial.self-inside.wanted)
     × (l.self-inside.again ≡ l.initial.self-inside.again)
     × (l.self-inside.trains ≡ l.initial.self-inside.trains)
+    × (l.self-inside.delays ≡ l.initial.self-inside.delays)
     × (l.self-inside.sensors ≡ l.initial.self-inside.sensors)
     × (l.self-inside.waiting ≡ l.initial.self-inside.waiting)

@@ -1,0 +1,9 @@
+pub mod DatasetLaws
+pub mod JoinLaws
+pub mod NoiseLaws
+pub mod NumberLaws
+pub mod ReadLaws
+pub mod SaidLaws
+pub mod ScanLaws
+pub mod TellLaws
+pub mod TextLaws
