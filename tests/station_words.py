@@ -1,18 +1,15 @@
 """The words of stations: the programs of bridges/ read and write what the crate `srcp_stations` does, over the rows of
 the crate's tests. While both live, neither changes alone."""
 import re
-import sys
 import types
-from pathlib import Path
 from typing import Any
 from unittest import mock
 
-TOP = Path(__file__).resolve().parent.parent
-ROWS = TOP / "crates" / "srcp_stations_tests" / "src" / "rows.rt"
-sys.path.insert(0, str(TOP / "bridges"))
+from bridge_tests.common import TOP  # it says first which programs these are
+from dcc_ex import DccEx, ask_locomotive
+from srcp_bridges.stations.datasets import XBUS, check, datasets, xbus
 
-from dcc_ex import DccEx, ask_locomotive  # noqa: E402
-from srcp_bridges.stations.datasets import XBUS, check, datasets, xbus  # noqa: E402
+ROWS = TOP / "crates" / "srcp_stations_tests" / "src" / "rows.rt"
 
 TRACKS = {None: "Track::All", "MAIN": "Track::Main", "JOIN": "Track::Join", "PROG": "Track::Prog"} | {
     letter: f"Track::Letter({place})" for place, letter in enumerate("ABCDEFGH")}

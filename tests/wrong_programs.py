@@ -51,6 +51,12 @@ def two(program):
     assert two.TWO == 2
 
 
+def two_of_the_repository(program):
+    sys.path.insert(0, str(Path(__file__).resolve().parent.parent / "bridges"))
+    from folder import two
+    assert two.TWO == 2
+
+
 def three_in_chromium(program):
     raise TriedNothing("there is no chromium here")
 
@@ -61,6 +67,7 @@ def late(program):
 
 def cases_by_name():
     return {"bridge-one": one, "bridge-one-in-set-up": one_in_set_up, "bridge-two": two,
+            "bridge-two-of-the-repository": two_of_the_repository,
             "bridge-three-in-chromium": three_in_chromium, "bridge-late": late}
 
 
@@ -167,6 +174,14 @@ def break_that_starts_nothing_fails(_: str) -> str | None:
             "two--no-import: it starts nothing: ModuleNotFoundError", "0 seen, 5 failed"])
 
 
+def break_that_does_not_reach_its_case_fails(_: str) -> str | None:
+    """A case that loads the repository's own modules, and not those of the copy, would see none of their breaks."""
+    with clone() as here:
+        here.edit("two--3", TWO.format(3).replace("bridge-two", "bridge-two-of-the-repository"))
+        return unlike(here.tried(), 1, ["two--3: bridge-two-of-the-repository reads the repository's own folder.two",
+                                        "0 seen, 1 failed"], 1)
+
+
 def break_that_applies_nowhere_fails(_: str) -> str | None:
     """Or at two places, and so does a file that is no break. What is in another folder is found by its path."""
     with clone() as here:
@@ -258,7 +273,7 @@ def breaks_apply(_: str) -> str | None:
 
 
 WRONG_PROGRAM_CASES = (break_that_its_case_sees_is_kept, break_that_no_case_sees_fails, break_that_starts_nothing_fails,
-                       break_that_applies_nowhere_fails, break_that_is_not_tried_in_time_is_told,
-                       break_whose_case_fails_without_it_is_not_tried,
+                       break_that_does_not_reach_its_case_fails, break_that_applies_nowhere_fails,
+                       break_that_is_not_tried_in_time_is_told, break_whose_case_fails_without_it_is_not_tried,
                        break_that_was_seen_longest_ago_is_tried_first, runner_of_breaks_that_is_ended_leaves_nothing,
                        breaks_apply)

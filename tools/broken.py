@@ -40,8 +40,10 @@ ROOMS = "srcp_broken_"
 LIMIT = 300  # seconds that a case may take
 KEPT_DAYS = 60
 # Runs one case, and tells its fault with the kind of that: none, a text, or that it tried nothing. What never comes is
-# waited for as long as this, and not for as long as in the gate. What fails in setUp has tried nothing of its own.
-ALONE = """import sys
+# waited for as long as this, and not for as long as in the gate. What fails in setUp has tried nothing of its own. A
+# case that loads modules of the repository's own bridges/ sees no break: all breaks of those would pass.
+ALONE = """import os
+import sys
 import traceback
 import run_cases
 from bridge_tests import common
@@ -56,9 +58,13 @@ def alone(program):
 
 common.until.__defaults__ = 25.0,
 fault = run_cases.fault_of(alone, sys.argv[1])
-print(f"{type(fault).__name__}: {fault}")
+own = os.path.abspath("../bridges/")
+if read := sorted(name for name, one in sys.modules.items() if (getattr(one, "__file__", "") or "").startswith(own)):
+    print(f"Stray: {sys.argv[2]} reads the repository's own {', '.join(read)}")
+else:
+    print(f"{type(fault).__name__}: {fault}")
 """
-SAID = re.compile(r"^(NoneType|TriedNothing|str): (.*)$", re.M)
+SAID = re.compile(r"^(NoneType|TriedNothing|Stray|str): (.*)$", re.M)
 # What a case stops at that sees a break: an assertion, a wait in vain, what a program refuses that it should not, or
 # the end of a connection that should stay.
 ASSERTED = ("AssertionError(", "TimeoutError(", "Refused(", "Fault(", "BrokenPipeError(", "ConnectionResetError(")
@@ -121,7 +127,7 @@ class Outcome(Enum):
     SEEN = "the case fails by what it asserts"
     PASSED = "the case passes"
     FAILED = "the case fails otherwise"
-    WRONG = "the break does not apply"
+    WRONG = "the break does not apply, or does not reach the case"
     UNTRIED = "not tried"
 
 
@@ -136,6 +142,8 @@ def verdict_of(case: str, out: str) -> Verdict:
     kind, why = ([("", f"{case} was ended")] + SAID.findall(out))[-1]
     if kind == "TriedNothing":
         return Verdict(Outcome.UNTRIED, why)
+    if kind == "Stray":
+        return Verdict(Outcome.WRONG, why)
     if kind == "NoneType":
         return Verdict(Outcome.PASSED, f"{case} passes with it")
     if word := next((word for word in STARTS_NOTHING if word in why), ""):
