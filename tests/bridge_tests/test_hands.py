@@ -11,6 +11,7 @@ class HandsBeforeStops(unittest.IsolatedAsyncioTestCase):
     async def test_what_a_hand_did_before_a_stop_does_not_undo_it(self):
         from srcp_bridges.srcp.rows import Drive
         from srcp_bridges.stations.hands import Hands
+        from srcp_bridges.stations.holds import Holds
         from srcp_bridges.stations.registry import Orders
         from srcp_bridges.srcp.stop import Stops
         asked, marked = [], []
@@ -18,10 +19,14 @@ class HandsBeforeStops(unittest.IsolatedAsyncioTestCase):
         async def ask(command):
             asked.append(command)
 
-        mirror = types.SimpleNamespace(stops=Stops(), session=True, ask=ask)
+        async def catches_up(device):
+            self.assertEqual(device, (1, "GL", 3, False))
+
+        mirror = types.SimpleNamespace(stops=Stops(), session=True, ask=ask, catches_up=catches_up)
         track = types.SimpleNamespace(top_of=lambda address: 126, mark=marked.append)
-        holds = types.SimpleNamespace(keep=marked.append, losses=0)
-        hands = Hands(types.SimpleNamespace(number=1, track=track, orders=Orders(mirror), mirror=mirror, holds=holds))
+        orders = Orders(mirror)
+        holds = Holds(1, mirror, orders, marked.append)
+        hands = Hands(types.SimpleNamespace(number=1, track=track, orders=orders, mirror=mirror, holds=holds))
         hands.drives(3, 45, 1, Drive(0, 1, 0, 126, ()), (0, 0))
         mirror.stops.stopped(1, 3)
         with mock.patch("srcp_bridges.stations.registry.say"):

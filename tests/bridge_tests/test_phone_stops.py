@@ -31,9 +31,9 @@ class WiThrottleWithBeats(WiThrottleCase):
         time.sleep(1)
         phone.send("M0A*<;>V29", "M0A*<;>V0", "M0A*<;>V30")
         phone.got("END")
-        self.lacks("100 INFO 1 LOCK", "100 INFO 1 GL 3 1 30 126")
-        speeds = [line.split()[6] for line in panel.told("100 INFO 1 GL 3 ")]
-        self.assertEqual([v for v, _ in itertools.groupby(speeds)][-4:], ["61", "0", "30", "0"])
+        speeds = lambda: [v for v, _ in itertools.groupby(line.split()[6] for line in panel.told("100 INFO 1 GL 3 "))]
+        until(lambda: speeds()[-4:] == ["61", "0", "30", "0"], "it drives once it was put to 0, and stands at the end")
+        self.lacks("100 INFO 1 LOCK")
 
 
 class WiThrottleStops(WiThrottleCase):

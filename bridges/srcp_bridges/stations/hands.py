@@ -10,9 +10,9 @@ from srcp_bridges.srcp.rows import FORWARD, STOP_ALL, Drive
 from srcp_bridges.srcp.stop import send, stop_one
 from srcp_bridges.stations.awaited import Part, Value
 from srcp_bridges.stations.bus import Bus
+from srcp_bridges.stations.holds import Seen
 from srcp_bridges.stations.registry import POWER
 from srcp_bridges.stations.reports import Reports
-from srcp_bridges.stations.track import Seen
 
 # Why the power is off.
 OFF = "station says off"
@@ -62,7 +62,7 @@ class Hands:
     def locomotive(self, address: int, speed: int, way: int, functions: int, seen: Seen | None = None) -> None:
         """Takes a report of a locomotive; `functions` has a bit for each. `seen`: the stops and losses counted then."""
         made, drive = self.track.locomotive(address)
-        seen = seen or (self.mirror.stops.count(self.bus.number, address), self.bus.holds.losses)
+        seen = seen or self.bus.holds.seen(address)
         part, value = ("cab", address), (speed, way)
         if not made:
             self.track.others[address] = speed, way, functions, seen
@@ -107,7 +107,7 @@ class Hands:
         stays = partial(self.bus.holds.keep, part)
         if speed > 0:
             command = f"{command} {speed} {self.track.top_of(address)}"
-            self.orders.put(part, partial(self.start, command, *seen), partial(self.track.mark, part))
+            self.orders.put(part, partial(self.start, part, command, seen), partial(self.track.mark, part))
         elif drive.v and speed < 0:
             self.orders.put(part, partial(stop_one, self.mirror, self.mirror.ask, self.bus.number, address), stays)
             if self.stops_all(address):
@@ -123,8 +123,15 @@ class Hands:
         self.stopped = recent | {address: now}
         return len(self.stopped) > 1 and not self.track.driving()
 
-    async def start(self, command: str, stops: int, losses: int) -> None:
-        """Has a locomotive drive, if it was not stopped and nothing was lost since a hand had it drive."""
-        if self.bus.holds.losses > losses:
-            raise Refused(None, "something was lost meanwhile")
-        await send(self.mirror.stops, self.mirror, command, stops)
+    async def start(self, part: Part, command: str, seen: Seen) -> None:
+        """Has a locomotive drive, if it was not stopped and nothing was lost since a hand had it drive. A stop that
+        comes while the command is on its way may overtake that at the server: then the row is held."""
+        holds = self.bus.holds
+        if holds.seen(part[1]) != seen:
+            raise Refused(None, "it was stopped, or something was lost meanwhile")
+        holds.starting[part] = seen
+        try:
+            await self.mirror.ask(command)
+            await self.mirror.catches_up((self.bus.number, "GL", part[1], False))
+        finally:
+            del holds.starting[part]

@@ -8,6 +8,7 @@ from srcp_bridges.stations.awaited import Part
 from srcp_bridges.stations.registry import POWER, Orders
 
 Moving = Power | Drive  # a row of what can be held
+Seen = tuple[int, int]  # the stops and losses that were counted
 
 
 class Holds:
@@ -15,7 +16,8 @@ class Holds:
 
     `refused` has the rows that stayed as they were, since another session has the locomotive locked, or of before a
     STOP ALL. `halted` has the locomotives that are told an emergency stop for that: until a row that is newer.
-    `changed` is called with a part that rests in another way.
+    `starting` has the locomotives that this program has drive for a hand, with what was seen as the hand did so, until
+    the panel has told their rows. `changed` is called with a part that rests in another way.
     """
 
     AWAY = "server was away"
@@ -28,12 +30,17 @@ class Holds:
         self.held: set[Part] = set()
         self.refused: dict[Part, Moving | None] = {}
         self.halted: set[int] = set()
+        self.starting: dict[Part, Seen] = {}
         self.changed = changed
         self.stopped = 0.0  # the stamp of the last STOP ALL
         self.why = self.AWAY
         self.station = False  # the station is there
         self.lost = False  # the server was away for too long
         self.losses = 0  # how often something was lost
+
+    def seen(self, address: int) -> Seen:
+        """Returns how often a locomotive was stopped, and something was lost, as far as the panel has told."""
+        return self.mirror.stops.count(self.bus, address), self.losses
 
     def rows(self) -> Iterator[tuple[Part, Moving]]:
         """Yields the parts of this bus that can be held, and their rows."""
@@ -46,6 +53,8 @@ class Holds:
         if not moves(row):
             self.free(part)
             self.clear_text(part, row, listed)
+        elif part in self.starting and self.starting[part] != self.seen(part[1]):
+            self.hold(part, row, "")  # the stop overtook that command: a hand had it drive before
         elif listed and part != POWER and row.stamp <= self.stopped:
             self.stop(part, row)
         elif not self.station or listed and (self.lost or self.mirror.anew):

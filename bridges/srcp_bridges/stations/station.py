@@ -14,11 +14,12 @@ from srcp_bridges.stations.awaited import Ahead, Part, Value
 from srcp_bridges.stations.bus import Bus
 from srcp_bridges.stations.datagrams import Datagrams
 from srcp_bridges.stations.hands import Hands
+from srcp_bridges.stations.holds import Seen
 from srcp_bridges.stations.last_words import LastWords
 from srcp_bridges.stations.line import Line
 from srcp_bridges.stations.programming import Programming
 from srcp_bridges.stations.registry import POWER
-from srcp_bridges.stations.track import URGENT, Hooks, Seen
+from srcp_bridges.stations.track import URGENT, Hooks
 
 
 class Station:

@@ -12,12 +12,11 @@ from srcp_bridges.limits import MOST_FUNCTIONS
 from srcp_bridges.srcp.mirrors import Mirror
 from srcp_bridges.srcp.rows import EMERGENCY_STOP, FORWARD, Drive, Locomotive, position
 from srcp_bridges.stations.awaited import Part, Value
-from srcp_bridges.stations.holds import Holds
+from srcp_bridges.stations.holds import Holds, Seen
 from srcp_bridges.stations.registry import POWER
 
 URGENT, STOPPING, DRIVING, LATER, TURNOUTS = range(5)
 Known = tuple[Locomotive | None, Drive]
-Seen = tuple[int, int]  # the stops and losses that were counted as the station reported
 Report = tuple[int, int, int, Seen]  # of a locomotive: speed, direction, and a bit for each function
 NOBODY: Known = None, Drive(0, FORWARD, 0, 0, ())
 
