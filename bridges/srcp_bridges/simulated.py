@@ -37,6 +37,7 @@ class Trouble:
         self.shuffles = shuffles
         self.spoilt = 0
         self.late: list[tuple[float, Callable[[], object]]] = []  # when something comes later, and what it does
+        self.giving = threading.RLock()  # so that nothing is answered between a message and its double
 
     def happens(self, share: float) -> bool:
         return self.chance.random() < share
@@ -49,11 +50,12 @@ class Trouble:
         if self.happens(self.turns):
             self.spoilt += 1
             message = self.turned(message)
-        for _ in range(2 if self.happens(self.doubles) else 1):
-            if self.happens(self.shuffles):
-                self.late.append((time.monotonic() + self.chance.uniform(0, LATER), partial(give, message)))
-            else:
-                give(message)
+        with self.giving:
+            for _ in range(2 if self.happens(self.doubles) else 1):
+                if self.happens(self.shuffles):
+                    self.late.append((time.monotonic() + self.chance.uniform(0, LATER), partial(give, message)))
+                else:
+                    give(message)
 
     def come_late(self) -> None:
         """Gives what is due."""

@@ -24,7 +24,8 @@ SPEEDS = {28: [0, -1, *(2 * code - 3 for code in range(2, 16)), 0, -1, *(2 * cod
 class Z21(Simulated):
     """What a Z21 knows, and its port. `log` has what has changed the track, with the moments.
 
-    `commanded` is when the last command came that was no question. `hand`, `throw`, `switch`, `stop`, `program` and
+    `commanded` is when the last command came that was no question; `looked` counts questions for locomotives since.
+    `hand`, `throw`, `switch`, `stop`, `program` and
     `overload` are what happens at the station itself. It keeps speeds while its power is off, and while it stops all.
     Who says nothing for `patience` seconds is told nothing more. While it is `deaf` it hears questions alone. One that
     is `locked` hears all but what drives and switches, as a z21start without its code. `decoder` has the CVs of the one
@@ -61,7 +62,7 @@ class Z21(Simulated):
         self.cabs, self.functions, self.turnouts = {}, {}, {}
         self.turn(0)
         self.log = []
-        self.commanded, self.asked = 0.0, 0
+        self.commanded, self.looked, self.asked = 0.0, 0, 0
         self.steps: dict[int, int] = {}
         self.clients: dict[tuple, int] = {}
         self.heard: dict[tuple, float] = {}
@@ -255,7 +256,7 @@ class Z21(Simulated):
         if self.locked and data[0] in (0x53, 0xE4):
             return True
         if data[0] in (0x80, 0x53, 0xE4, 0x23, 0x24) or data[:2] in ((0x21, 0x80), (0x21, 0x81)):
-            self.commanded = time.monotonic()
+            self.commanded, self.looked = time.monotonic(), 0
             if self.deaf:
                 return True
         match data:
@@ -275,6 +276,7 @@ class Z21(Simulated):
             case 0x43, high, low:
                 self.say_bus(self.client, 0x43, high, low, self.turnouts.get(high * 256 + low + 1, -1) + 1)
             case 0xE3, 0xF0, high, low:
+                self.looked += 1
                 self.say_bus(self.client, *self.cab((high & 63) << 8 | low))
             case 0xE4, 0x10 | 0x12 | 0x13 as form, high, low, code if high > 191 or high == 0 and low < 128:
                 self.take_speed((high & 63) << 8 | low, form & 3, code & 127, code >> 7)

@@ -231,7 +231,6 @@ class Way:
         self.enter = threading.Event()
         self.port = self.door.getsockname()[1]
         self.listed = None
-        self.late = None
         self.cuts = 0
         self.free()
         threading.Thread(target=self.accept, daemon=True).start()
@@ -256,11 +255,12 @@ class Way:
             while more := upstream.recv(65536):
                 cuts = client in self.panels and self.listed is not None
                 more = more[:self.listed - passed] if cuts else more
-                if client in self.panels and self.late and self.late in more:
-                    begin = more.index(self.late)
+                late = self.late
+                if client in self.panels and late and late in more:
+                    begin = more.index(late)
                     client.sendall(more[:begin])
-                    self.open.clear()
-                    self.open.wait()
+                    while self.late is late:
+                        time.sleep(0.01)
                     more = more[begin:]
                 client.sendall(more)
                 passed += len(more)
@@ -304,6 +304,7 @@ class Way:
         self.enter.clear()
 
     def free(self):
+        self.late = None
         self.open.set()
         self.enter.set()
 

@@ -406,6 +406,7 @@ class Hands(StationCase):
         self.station.hand(3, speed=99)
         self.track(lambda s: s.cabs[3] == (63, 1), "its holder drives it")
         for speed in (-1, 0):
+            self.settles()  # else what is told again takes the place of an emergency stop by a 0
             self.station.hand(3, speed=speed)
             time.sleep(QUIET)
             self.assertEqual(self.station.cabs[3], (speed, 1))

@@ -251,7 +251,6 @@ class DccExWithLosses(Losses, DccExCase):
         self.way.late = b" 100 INFO 1 GL 3 1 14"
         self.driver = self.starts("dcc_ex.py", "--station", self.link, *self.words, port=self.way.port)
         until(lambda: "100 INFO 1 POWER OFF server was away" in rows(self.server.port), "it has joined")
-        self.way.late = None
         self.way.free()
         self.rests("server was away")
         self.assertEqual([text for text in self.commands("t 3") if text != "t 3 0 1"][1:], [])

@@ -116,6 +116,19 @@ class HandsBeforeRows(unittest.IsolatedAsyncioTestCase):
         self.assertEqual(await self.told(lambda: self.tells("100 INFO 1 POWER OFF stop all")), (0, 1))
         self.assertEqual(self.asked, [self.GET, self.INIT])
 
+    async def test_two_commands_of_one_millisecond(self):
+        """The second of them may look like the first: a light is no command to drive, and a speed is one."""
+        drives, lit = "100 INFO 1 GL 77 1 40 126" + 29 * " 0", "100 INFO 1 GL 77 1 40 126 1" + 28 * " 0"
+        self.tells("101 INFO 1 GL 77 N 1 126 29", drives)
+        self.bus.track.told["cab", 77] = 40, 1
+        self.tells("100 INFO 1 POWER ON stop all")
+        self.assertEqual(self.waits(), (-1, 1))
+        self.tells(lit)
+        self.assertEqual(self.waits(), (-1, 1))
+        self.tells(lit)
+        self.assertIsNone(self.waits())
+        self.assertEqual(self.bus.track.wanted(("cab", 77))[1], (40, 1))
+
     async def test_what_a_hand_drives_stands_once_this_program_has_slept(self):
         """Also as the power comes again."""
         await self.told()

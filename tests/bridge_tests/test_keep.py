@@ -86,7 +86,6 @@ class Keep(Case):
         self.restart()
         until(lambda: "made 5 devices" in self.keep.told(), "all are made")
         self.stays_kept(KEPT)
-        self.way.late = None
         self.way.free()
         self.throttle.order("TERM 1 GA 6")
         self.stays_kept([command for command in KEPT if command != "INIT 1 GA 6 M"])

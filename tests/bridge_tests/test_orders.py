@@ -145,7 +145,6 @@ class Stopping(MqttCase):
         self.client.say("srcp/stop/set", "now")
         until(lambda: any(row.endswith(" stop all") for row in rows(self.server.port)), "it is told")
         time.sleep(0.4)
-        self.way.late = None
         self.way.free()
         self.has("100 INFO 1 GL 3 0 0 28")
 
@@ -173,7 +172,6 @@ class Stopping(MqttCase):
             self.throttle.order(f"SET 1 GL 3 {stop}")
             self.client.say("srcp/1/GL/3/set", json.dumps({"functions": {str(number): 1}}))
             self.has(f"100 INFO 1 GL 3 0 0 28 1 {number}")
-            self.way.late = None
             self.way.free()
             self.throttle.order("SET 1 GL 3 0 9 28")
             self.knows(v=9)

@@ -264,7 +264,6 @@ class WiThrottleStops(WiThrottleCase):
         phone.got("M0+S3<;>")
         phone.send("M0A*<;>F11")
         time.sleep(0.3)
-        self.way.late = None
         self.way.free()
         self.has("100 INFO 1 GL 3 0 0 28 0 1")
 

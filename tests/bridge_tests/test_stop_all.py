@@ -260,7 +260,6 @@ class StopAll(StationCase):
         self.station.hand(3, speed=90)
         self.lacks("100 INFO 1 GL 3 1 0 ")
         begun = time.monotonic()
-        self.way.late = None
         self.way.free()
         self.has("100 INFO 1 POWER ON all stood", "100 INFO 1 GL 3 1 0 ")
         self.track(lambda s: s.power == 1, "power is on again")

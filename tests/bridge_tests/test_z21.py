@@ -27,8 +27,11 @@ class Z21Case(StationCase):
         self.settles()
 
     def settles(self):
-        """Returns once the driver tells nothing again, since all is confirmed."""
-        self.track(lambda s: time.monotonic() - s.commanded > 2 * QUIET, "all is confirmed")
+        """Returns once the driver tells nothing again, since all is confirmed. It has looked at that several times: on
+        a busy machine a driver that has told nothing for a while may not have run."""
+        is_asked = any(" GL " in row for row in rows(self.server.port))
+        self.track(lambda s: time.monotonic() - s.commanded > 2 * QUIET and (s.looked > 5 or not is_asked),
+                   "all is confirmed")
 
 
 class Z21(Drives, Z21Case):
@@ -281,7 +284,7 @@ class Z21WithHands(Hands, Z21Case):
         """Makes turnout 5 and throws it; returns once the station has confirmed that."""
         self.throttle.order("INIT 1 GA 5 N", f"SET 1 GA 5 {port} 1 {time_of_pulse}")
         self.track(lambda s: s.turnouts.get(5) == port and not s.outputs, "it is thrown")
-        self.track(lambda s: time.monotonic() - s.commanded > 2 * QUIET, "and confirmed")
+        self.settles()
 
     def test_a_hand_throws_a_turnout(self):
         """Its row follows, and the station is told nothing of it."""

@@ -67,9 +67,10 @@ class Holds:
         self.halted.discard(part[-1])
 
     def is_commanded(self, part: Part, row: Moving) -> bool:
-        """Returns whether a row is a new command of who has the locomotive locked: one for functions alone is none."""
+        """Returns whether a row is a new command of who has the locomotive locked: one for functions alone is none. It
+        may be the row of before, stamp and all: then both were commanded in one millisecond."""
         old = self.refused.get(part)
-        if not isinstance(row, Drive) or not isinstance(old, Drive) or old == row:
+        if not isinstance(row, Drive) or not isinstance(old, Drive):
             return False
         self.refused[part] = row
         return row[1:4] != old[1:4] or row.functions == old.functions
