@@ -54,7 +54,10 @@ class StopAll(StationCase):
         self.many()
         begun = len(self.station.log)
         since = time.monotonic()
+        loses, self.station.loses = self.station.loses, 0  # what is told first comes
         self.throttle.order("SET 1 POWER ON stop all")
+        self.track(lambda s: [text for text in self.commands("", begun) if text != "#"], "it is told")
+        self.station.loses = loses
         self.has("100 INFO 1 POWER ON all stood")
         self.all_stand("all stand as it says so")
         first = next(text for text in self.commands("", begun) if text != "#")
