@@ -28,7 +28,7 @@ class Order(NamedTuple):
 Work = Callable[[Order], Awaitable[None]]
 
 
-class Orders:
+class TopicQueue:
     """Carries out what `waits` in order; `stops`, and what is `beside`, as they come.
 
     A command goes by the session that was there as it came, so none outlives the server that it was meant for. A STOP
@@ -43,7 +43,7 @@ class Orders:
         self.stops: set[asyncio.Task[None]] = set()
         self.beside: set[asyncio.Task[None]] = set()
 
-    def take(self, place: str, text: str) -> None:
+    def on_message(self, place: str, text: str) -> None:
         """Takes in a command, in the order in which it came."""
         try:
             locomotive = locomotive_of(place)
@@ -127,7 +127,8 @@ class Orders:
     async def switch(self, order: Order) -> None:
         """Switches the functions that are wanted; none, if the locomotive has not all of them."""
         assert order.session and order.locomotive and order.wanted
-        functions, (bus, address) = order.wanted.functions, order.locomotive
+        functions = order.wanted.functions
+        bus, address = order.locomotive
         made = self.mirror.rows.get((bus, "GL", address, "is"))
         if beyond := [number for number in functions if made and not 0 <= number < made.functions]:
             raise Refused(None, f"it has no function {beyond[0]}")

@@ -105,7 +105,8 @@ class Page:
             if not self.open:
                 raise Refused(None, "this page is closed")
             if self.session and self.session.ended.done():
-                self.session, self.taken = None, set()
+                self.session = None
+                self.taken = set()
             if not self.session and words[2:3] == ["LOCK"]:
                 self.session = await Session.begin(self.mirror.server, whose="a page")
             drives = words[1:2] + words[3:7]
@@ -119,7 +120,8 @@ class Page:
     async def drive(self, command: str, locomotive: Locomotive, told: Told, seen: int) -> None:
         """Carries out a command that has a locomotive drive as it is told: mode, V and Vmax."""
         bus, address = locomotive
-        row, before = self.mirror.rows.get((bus, "GL", address, "does")), self.drives.get(locomotive)
+        row = self.mirror.rows.get((bus, "GL", address, "does"))
+        before = self.drives.get(locomotive)
         if before or not row or row[1:4] != told:  # if not, this switches functions alone, and another drives
             self.drives[locomotive] = told
         try:

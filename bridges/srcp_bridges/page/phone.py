@@ -40,7 +40,7 @@ class Phone:
         elif not self.writer.is_closing():
             self.writer.write(text.encode() + b"\r\n")
 
-    def take(self, text: str, by_phone: bool = True) -> None:
+    def on_line(self, text: str, by_phone: bool = True) -> None:
         """Takes in a line, of the phone or, if it is silent, of this program."""
         if text in ("*+", "*-"):
             self.watched = text == "*+"
@@ -81,10 +81,11 @@ class Phone:
                     line = (await self.reader.readuntil(b"\n")).decode("utf-8", "replace").strip()
             except TimeoutError:
                 self.is_silent = True
-                self.take(STOP_EVERY, by_phone=False)
+                self.on_line(STOP_EVERY, by_phone=False)
                 continue
             if self.is_silent:
-                self.is_silent, self.came_back = False, asyncio.get_running_loop().time()
+                self.is_silent = False
+                self.came_back = asyncio.get_running_loop().time()
             return line
         raise ConnectionError("silent for too long")
 
@@ -94,11 +95,11 @@ class Phone:
         try:
             async with asyncio.timeout(NAMELESS):
                 while text != END and not text.startswith("N"):
-                    self.take(text := await self.next_line())
+                    self.on_line(text := await self.next_line())
         except TimeoutError:
             return "told no name"
         while text != END:
-            self.take(text := await self.next_line())
+            self.on_line(text := await self.next_line())
         return "said good-bye"
 
     async def read_all(self) -> None:
@@ -112,7 +113,7 @@ class Phone:
             why = str(fault)
         finally:
             say(f"phone {self.peer}: {why}")
-            self.take(STAND_EVERY, by_phone=False)
+            self.on_line(STAND_EVERY, by_phone=False)
             self.waiting.put_nowait(self.words.line(END))
 
     async def carry_out(self) -> None:

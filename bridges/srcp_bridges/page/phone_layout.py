@@ -39,10 +39,10 @@ class Layout:
         self.phones: set[Phone] = set()
         self.due: set[str] = set()  # the lists that are about to be told anew
         self.joined = asyncio.Event()
-        self.mirror = Mirror(asked, self.told, lambda anew: self.joined.set())
+        self.mirror = Mirror(asked, self.on_change, lambda anew: self.joined.set())
         self.routes = Routes(self.mirror, plan)
 
-    def told(self, change: Change) -> None:
+    def on_change(self, change: Change) -> None:
         bus, group, address, part = change.key
         if bus == self.routes.bus and address in self.routes.names:
             self.told_of_route(group, address, part)
@@ -73,7 +73,7 @@ class Layout:
         self.mirror.stops.all += 1
         if row.text:
             for phone in self.phones:
-                phone.take(STAND_EVERY, by_phone=False)
+                phone.on_line(STAND_EVERY, by_phone=False)
 
     async def look_for_bus(self) -> None:
         """Looks at each server that is joined whether it has the bus."""

@@ -63,7 +63,8 @@ class Words:
         turn = URGENT if (found := STOPS.fullmatch(text)) or text == "PPA0" else USUAL
         if turn == URGENT:
             self.stopped[(found[1], found[2]) if found else POWER] = self.lines
-        counted, own = self.layout.mirror.stops.now(), self.own.copy()
+        counted = self.layout.mirror.stops.now()
+        own = self.own.copy()
         return Line(turn, self.lines, text, lambda address: counted(self.bus, address) - own[address], is_old,
                     by_phone, is_held)
 
@@ -212,7 +213,8 @@ class Words:
 
     async def function(self, which: Which, act: str, number: int, on: int) -> None:
         """F is the button of a function, pressed or let go; f sets the function; m says which buttons do not toggle."""
-        momentary, address = self.momentary[which], self.driver.taken[which]
+        momentary = self.momentary[which]
+        address = self.driver.taken[which]
         if act == "m":
             (momentary.add if on else momentary.discard)(number)
             self.say(self.about(which, f"m{on}{number}"))

@@ -31,7 +31,8 @@ class Wanted(NamedTuple):
 def shown(rows: Rows, key: Key) -> dict[str, Payload]:
     """Returns the topics at which a row is shown, and their payloads: nothing for what is not there."""
     bus, group, address, part = key
-    row, at = rows.get(key), f"{bus}/{group}" + f"/{address}" * (group != "POWER")
+    row = rows.get(key)
+    at = f"{bus}/{group}" + f"/{address}" * (group != "POWER")
     if group == "POWER":
         power = row if isinstance(row, Power) else None
         return {at: power and ("ON" if power.on else "OFF"), f"{at}/text": power and power.text}
@@ -83,7 +84,8 @@ def announced(rows: Rows, key: Key, prefix: str, names: Mapping[str, str]) -> tu
     if not (found := entity(rows, key, prefix + at)):
         return None
     kind, words = found
-    own, name = f"{bus}_{group}_{address}", at.replace("/", " ")
+    own = f"{bus}_{group}_{address}"
+    name = at.replace("/", " ")
     is_there = words["options"] if kind == "select" else key in rows
     announcement = json.dumps(words | common(own, names.get(name, name), prefix)) if is_there else None
     return f"{kind}/{node(prefix)}/{own}", announcement

@@ -55,7 +55,8 @@ class Mirror:
                 await self.follow()
             except (OSError, Refused) as fault:
                 say(f"server: {str(fault) or 'no answer'}")
-            was_here, self.here = self.here, False
+            was_here = self.here
+            self.here = False
             if was_here:
                 self.left()
             await asyncio.sleep(self.again)
@@ -68,7 +69,8 @@ class Mirror:
                 return self.session
         except ConnectionError:
             pass  # that server is gone
-        self.anew, session = True, await self.begin()
+        session = await self.begin()
+        self.anew = True
         self.drivers.clear()
         self.stopped.clear()
         for device in reversed(devices(self.rows)):  # so sessions go last, as at the server
@@ -104,7 +106,8 @@ class Mirror:
         try:
             return await Session.begin(self.server, take)
         except ServerIsFull:
-            spare, self.spare = self.spare, None
+            spare = self.spare
+            self.spare = None
             if not spare or spare.ended.done():
                 raise
             return await spare.go(take)

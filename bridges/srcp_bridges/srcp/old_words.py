@@ -66,12 +66,12 @@ class Answers:
     sessions that asked for the time."""
 
     def __init__(self, asked: argparse.Namespace, tell: Callable[[str], None]):
-        self.mirror = Mirror(asked, self.told)
+        self.mirror = Mirror(asked, self.on_change)
         self.tell = tell
         self.clock = Clock()
         self.waits: set[asyncio.Queue[Change]] = set()  # the changes that come to each WAIT
 
-    def told(self, change: Change) -> None:
+    def on_change(self, change: Change) -> None:
         for changes in self.waits:
             changes.put_nowait(change)
 

@@ -117,14 +117,16 @@ def parse(line: str) -> tuple[Key, Row | None]:
     The part is `is`, `does`, `lock`, or the number of an accessory's port.
     """
     moment, code, _, bus, group, *words = line.split(" ")
-    stamp, row = float(moment), None
+    stamp = float(moment)
+    row = None
     part: str | int = "does" if code == "100" else "is"
     if group == "LOCK":
-        group, part = words.pop(0), "lock"
+        group = words.pop(0)
+        part = "lock"
     address = 0 if group == "POWER" else int(words.pop(0))
     if code != "102":
         if group == "GA" and part == "does":
-            part, *words = int(words[0]), *words[1:]
+            part = int(words.pop(0))
         row = row_of(group, part, stamp, words)
     return (int(bus), group, address, part), row
 
@@ -171,7 +173,8 @@ class Rows(dict[Key, Row]):
 
     def enter(self, key: Key, row: Row, listed_again: bool = False) -> Row | None:
         """Puts a row in; returns the one that was there."""
-        before, self[key] = self.get(key), row
+        before = self.get(key)
+        self[key] = row
         bus, group, address, part = key
         if group == "GA" and isinstance(part, int) and isinstance(row, Port):
             was_off = isinstance(before, Port) and not before.value

@@ -89,7 +89,8 @@ class ServiceMode:
             return UNSUPPORTED
         if wrong := fault(words[:1] + words[2:], *[0, 9999, 999][:2 + (command != "GET")]):
             return wrong
-        cv, value = int(words[2]), None if command == "GET" else int(words[3])
+        cv = int(words[2])
+        value = None if command == "GET" else int(words[3])
         code, told = await ask(door, f"WRITE {cv} {value}" if command == "SET" else f"READ {cv}")
         if code != "200":
             return TEXTS.get(code, NO_DATA)

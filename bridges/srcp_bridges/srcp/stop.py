@@ -51,7 +51,8 @@ class Stops:
 
     def now(self) -> Callable[[int, int], int]:
         """Returns a function that counts as `count` does at this moment."""
-        every, each = self.all, self.each.copy()
+        every = self.all
+        each = self.each.copy()
         return lambda bus, address: every + each[bus, address]
 
     def refuse(self, bus: int, address: int, seen: int) -> None:
