@@ -41,7 +41,7 @@ async def announced(kind: str, server: asyncio.Server, where: list[str]) -> Asyn
 
 
 async def announce(kind: str, server: asyncio.Server) -> None:
-    """Announces a server for as long as it runs, at the addresses that this machine has."""
+    """Announces a server while the server runs, at the addresses of this machine."""
     told = ""
     while zeroconf:
         try:

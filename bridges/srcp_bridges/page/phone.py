@@ -1,4 +1,4 @@
-"""A phone that is connected: its lines come in, wait, and are carried out."""
+"""A connected phone: lines come in, wait, and are carried out."""
 import asyncio
 import socket
 
@@ -68,11 +68,12 @@ class Phone:
         return now - self.looked > WAS_STOPPED or now - self.went_on < WAS_STOPPED
 
     def was_silent(self) -> bool:
-        """Returns whether the phone has just come back after a silence: what comes in then may be as old as that."""
+        """Returns whether the phone has just come back after a silence: a line that comes in then may be as old as the
+        silence."""
         return asyncio.get_running_loop().time() - self.came_back < WAS_STOPPED
 
     async def next_line(self) -> str:
-        """Returns the next line. A phone that is silent is stopped, and after a while it counts as gone."""
+        """Returns the next line. A silent phone is stopped, and counts as gone after a while."""
         if self.waiting.qsize() >= LINES_WAITING and self.words.lines % READ_AT_ONCE == 0:
             await asyncio.sleep(0)  # other phones have their turn
         for seconds in (self.layout.asked.heartbeat if self.watched else None, self.layout.asked.patience):
@@ -103,7 +104,8 @@ class Phone:
         return "said good-bye"
 
     async def read_all(self) -> None:
-        """Takes in all lines. At the end all stands at once that the phone has taken, and then what waits is done."""
+        """Takes in all lines. At the end all locomotives taken by the phone stand at once, and then the waiting lines
+        are done."""
         why = "this program is ended"
         try:
             why = await self.read()
@@ -133,7 +135,7 @@ class Phone:
             self.writer.close()
 
     async def drive(self) -> None:
-        """Has a phone drive until it has gone; then what it had taken stands."""
+        """Has a phone drive until the phone has gone; then the locomotives that it had taken stand."""
         say(f"phone {self.peer}: joined")
         connection = self.writer.get_extra_info("socket")
         connection.setsockopt(socket.SOL_SOCKET, socket.SO_KEEPALIVE, 1)

@@ -16,7 +16,7 @@ Ask = Callable[[str], Awaitable[Reply]]  # carries out a command
 
 
 class ServerIsFull(ConnectionError):
-    """The server closed a connection before it said anything, as it does with one more than it takes."""
+    """The server closed a connection without a word, as a full server does."""
 
 
 class Session(asyncio.Protocol):
@@ -56,8 +56,8 @@ class Session(asyncio.Protocol):
         raise ConnectionError("does not speak SRCP")
 
     async def go(self, take: Take | None = None, whose: str = "") -> "Session":
-        """Begins a command session; or that of a panel, if there is a function to `take` its lines. `whose` names whom
-        the session is for, if that is not this program."""
+        """Begins a command session; or a panel's, if there is a function to `take` the lines. `whose` names whom the
+        session is for, if not this program."""
         self.on_line = take
         try:
             await self.ask(f"SET CONNECTIONMODE SRCP {'INFO' if take else 'COMMAND'}")
