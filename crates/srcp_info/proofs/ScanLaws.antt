@@ -1,4 +1,4 @@
--- Laws of the words of a text that is cut at its spaces from the front.
+-- Laws of the words of a text, cut at the spaces from the front.
 use Rattle.std.specs.Prelude.{◌≡◌, ℕ, ◌+◌, ◌/◌, ◌%◌, ◌^◌, ◌<◌, ◌≤◌, Bool, false, true, List, [], ◌∷◌, ◌++◌, length, map, take, drop}
 use Rattle.std.specs.Prelude.{position, ◌==◌, Some, None}
 use Rattle.std.specs.List.{list_any, position_or_len, before_first, after_first, join_with_byte}
