@@ -39,7 +39,7 @@ from serving import LAYOUT, Client, served
 # ---- serve
 
 IDLE_SECONDS = 5
-COMMANDS = 64_000
+COMMANDS = 64_000  # of all sessions together
 
 
 def idle_server(program: str, locomotives: int) -> None:
@@ -135,7 +135,7 @@ def serve(program: str) -> None:
 
 # ---- latency
 
-SECONDS_AT_MOST = 60
+SECONDS_AT_MOST = 60  # until the panel is closed
 
 
 def waits_beside(port: int, panel: Client) -> tuple[dict[str, list[float]], float]:
@@ -194,7 +194,7 @@ def latency(program: str, seconds: int = 60) -> None:
 
 # ---- stalls
 
-PULSES = 200
+PULSES = 200  # over which the cost of one is averaged
 FEW = (20, 5)
 MANY = (2_044, 2_000)
 GONE = "416 ERROR no data"
@@ -262,7 +262,7 @@ def stalls(program: str, locks: int = 5_000) -> None:
 
 # ---- mirror
 
-LIMIT = 16_777_216
+LIMIT = 16_777_216  # bytes of an input
 
 
 def folded(program: str, told: str, given: Iterable[bytes]) -> None:
