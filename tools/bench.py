@@ -36,6 +36,8 @@ from bridge_costs import bridges
 from door import changes_without_end, reads_to_the_end
 from serving import LAYOUT, Client, served
 
+GONE = "416 ERROR no data"  # of a session that has ended
+
 # ---- serve
 
 IDLE_SECONDS = 5
@@ -149,7 +151,7 @@ def waits_beside(port: int, panel: Client) -> tuple[dict[str, list[float]], floa
             sent = time.monotonic()
             reply = lone.asks(command)
             waits[name].append(time.monotonic() - sent)
-            if reply.startswith("416") and not closed:
+            if reply == GONE and not closed:
                 closed = sent - begun
         assert sent < begun + SECONDS_AT_MOST, "the panel is not closed"
     return waits, closed
@@ -197,7 +199,6 @@ def latency(program: str, seconds: int = 60) -> None:
 PULSES = 200  # over which the cost of one is averaged
 FEW = (20, 5)
 MANY = (2_044, 2_000)
-GONE = "416 ERROR no data"
 
 
 def pulse_seconds(program: str, accessories: int, locks: int) -> float:

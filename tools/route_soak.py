@@ -12,6 +12,7 @@ from typing import Any
 
 from bridge_tests import common
 from bridge_tests.common import until
+from srcp_bridges.srcp.replies import Code
 from srcp_bridges.srcp.rows import Lock, Port, parse
 
 Accessory = tuple[int, int]  # bus and address
@@ -180,7 +181,7 @@ class Soak:
                 self.watch.throttles.add(throttle.session)
                 while self.running:
                     reply = throttle.ask(self.command(draw))
-                    self.watch.count["throws that were refused"] += reply.startswith("414")
+                    self.watch.count["throws that were refused"] += reply.startswith(f"{Code.LOCKED:d} ")
                     time.sleep(PACE)
 
     def command(self, draw: random.Random) -> str:
