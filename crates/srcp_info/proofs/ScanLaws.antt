@@ -1,5 +1,5 @@
 -- Laws of the words of a text, cut at the spaces from the front.
-use Rattle.std.specs.Prelude.{◌≡◌, ℕ, ◌/◌, ◌%◌, ◌^◌, ◌<◌, ◌≤◌, Bool, false, true, List, [], ◌∷◌, ◌++◌, length, map, ◌==◌, Some}
+use Rattle.std.specs.Prelude.{◌≡◌, ℕ, ◌/◌, ◌%◌, ◌^◌, ◌<◌, Bool, false, true, List, [], ◌∷◌, ◌++◌, length, map, ◌==◌, Some}
 use Rattle.std.specs.List.{list_any, before_first, after_first, join_with_byte}
 use Rattle.std.specs.Char.{is_ascii_digit}
 use Rattle.std.specs.Fmt.{decimal}
@@ -9,9 +9,9 @@ use Rattle.std.proofs.lemmas.Bool.Decides.{nat_tests}
 use Rattle.std.proofs.lemmas.Fmt.{digits_decimal}
 use Rattle.std.proofs.lemmas.List.{append_assoc, length-append}
 use Rattle.srcp_text.specs.Stamp.{stamp, three_digits}
-use Rattle.srcp_text.specs.Words.{number_of, plain_number_of}
+use Rattle.srcp_text.specs.Words.{plain_number_of}
 use Rattle.srcp_text.proofs.CutLaws.{cut_at}
-use Rattle.srcp_text.proofs.NumberLaws.{own, has_leading_zero-decimal, plain_number_of-decimal}
+use Rattle.srcp_text.proofs.NumberLaws.{own, plain_number_of-decimal}
 use Rattle.srcp_text.proofs.StampLaws.{digits_free, stamp_free, digit_no_point}
 use Rattle.srcp_info.specs.Line.{bit_word}
 use Rattle.srcp_info.specs.declared.scan.InfoKind.{InfoKind}
@@ -37,10 +37,6 @@ pub kind_no_space : (kind : InfoKind) → list_any is_space (kind_code kind) ≡
 kind_no_space kind = grind arith
 
 -- ---- numbers
-
--- a printed number is read as that number
-pub number_of-decimal : (max n : ℕ) → n ≤ max → n < 2 ^ 64 → number_of max (decimal n) ≡ Some n
-number_of-decimal max n le h = rw (has_leading_zero-decimal n h) at (plain_number_of-decimal max n le h)
 
 -- the seconds of a stamp stand before its point, and its thousandths after it
 pub cut_stamp : (moment : ℕ) → moment < 2 ^ 64 → (before_first (λ byte. byte == 46) (stamp moment) ≡ decimal (moment / 1000))
