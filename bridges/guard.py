@@ -18,11 +18,11 @@ class Guard:
     """`freed` has, by locomotive, when it lost its lock (None: at a moment that nobody told), and whose that was."""
 
     def __init__(self, asked: argparse.Namespace):
-        self.mirror = Mirror(asked, self.told)
+        self.mirror = Mirror(asked, self.on_change)
         self.freed: dict[Locomotive, tuple[float | None, int]] = {}
         self.stops: set[asyncio.Task[None]] = set()
 
-    def told(self, change: Change) -> None:
+    def on_change(self, change: Change) -> None:
         """As a session ends, its locks go at the same moment. After an overrun it is not known: in doubt it stops."""
         bus, group, address, part = change.key
         if group == "GL" and part == "lock":

@@ -52,7 +52,7 @@ class Log:
         self.names = names(asked.names)
         self.since = 0.0
         self.whose: dict[int, str] = {}
-        self.mirror = Mirror(asked, self.told, self.joined, self.left)
+        self.mirror = Mirror(asked, self.on_change, self.joined, self.left)
 
     def joined(self, anew: bool) -> None:
         self.write("joined a server that was started" if anew else "joined the server again")
@@ -61,7 +61,7 @@ class Log:
         self.since = 0.0
         self.write("the server is away")
 
-    def told(self, change: Change) -> None:
+    def on_change(self, change: Change) -> None:
         """A device that is gone is told of once, by the row that says what it is."""
         bus, group, address, part = change.key
         if group == "SESSION" and change.row:

@@ -25,7 +25,7 @@ import json
 
 from srcp_bridges.limits import BROKER_LOOK, LONGEST_PAYLOAD, LOOKED_AT, READING
 from srcp_bridges.page.broker import check, connect, matches, paho, publish
-from srcp_bridges.page.orders import Orders
+from srcp_bridges.page.orders import TopicQueue
 from srcp_bridges.page.topics import announced, device_of, node, shown, stop_button
 from srcp_bridges.program import PORT, Wrong, arguments, names, run, say
 from srcp_bridges.srcp.mirrors import Mirror
@@ -53,12 +53,12 @@ class Bridge:
         self.behind = asyncio.Event()
         self.lost: asyncio.Event
         self.marked: asyncio.Event
-        self.mirror = Mirror(asked, self.told, lambda anew: self.online(), self.online)
-        self.orders = Orders(self.mirror, self.refused)
+        self.mirror = Mirror(asked, self.on_change, lambda anew: self.online(), self.online)
+        self.orders = TopicQueue(self.mirror, self.refused)
         if asked.home_assistant:
             self.announce(*stop_button(self.prefix))
 
-    def told(self, change: Change) -> None:
+    def on_change(self, change: Change) -> None:
         for place, payload in shown(self.mirror.rows, change.key).items():
             self.want(self.prefix + place, payload, place.endswith(("/position", "/text")))
         if self.asked.home_assistant and (found := announced(self.mirror.rows, change.key, self.prefix, self.names)):
@@ -159,7 +159,7 @@ class Bridge:
             if retained or len(payload) > LONGEST_PAYLOAD:
                 self.refused(place, text, "retained" if retained else "too long")
             else:
-                self.orders.take(place, text)
+                self.orders.on_message(place, text)
 
     def found(self, topic: str, text: str) -> None:
         """Takes in what the broker has retained: what this bridge may have had it show, and another bridge's mark."""
@@ -173,7 +173,8 @@ class Bridge:
         joined = asyncio.Event()
         self.lost = asyncio.Event()
         self.marked = asyncio.Event()
-        self.there, self.other = {}, None
+        self.there = {}
+        self.other = None
         words = self.node + "-bridge", self.prefix + "online", self.heard, joined, self.lost
         client = self.client = await asyncio.to_thread(connect, self.asked, *words, asyncio.get_running_loop())
         tasks: list[asyncio.Task[None]] = []
@@ -199,7 +200,8 @@ class Bridge:
 
     def all_topics(self) -> list[tuple[str, int]]:
         """Returns what is read as a connection begins; by QoS 0, since of 1 mosquitto sends 1,000 messages at most."""
-        levels, node = self.prefix.split("/")[:-1], f"+/{self.node}/+/config"
+        levels = self.prefix.split("/")[:-1]
+        node = f"+/{self.node}/+/config"
         above = ["/".join([*levels[:count], "online"]) for count in range(1, len(levels))]
         discovery = [f"{self.asked.home_assistant}/{node}"] if self.asked.home_assistant else []
         return [(topic, 0) for topic in (self.prefix + "#", *above, *discovery)]

@@ -112,7 +112,8 @@ class Client:
                 if not self.is_panel:
                     words = line.split()
                     if not self.id and words[1:4] == [b"200", b"OK", b"GO"]:
-                        self.id, self.is_panel = int(words[4]), self.mode == "INFO"
+                        self.id = int(words[4])
+                        self.is_panel = self.mode == "INFO"
                         SELF.begins(self.port, self.id, f"client {self.peer}")
                     self.replies.put_nowait(line)
         finally:
@@ -139,7 +140,8 @@ class Client:
     async def carry_out_all(self) -> None:
         """Carries out what the client sends, until it has gone and all is answered, or the server has gone."""
         upstream, self.server = await asyncio.open_connection(*self.proxy.answers.mirror.server)
-        self.hearing, self.reading = asyncio.create_task(self.hear(upstream)), asyncio.create_task(self.read())
+        self.hearing = asyncio.create_task(self.hear(upstream))
+        self.reading = asyncio.create_task(self.read())
         self.proxy.clients.add(self)
         try:
             await self.replies.get()  # the welcome line
@@ -239,7 +241,8 @@ class Client:
 
 def by_its_own_port(line: bytes, words: list[str]) -> bytes:
     """Returns the line that throws a turnout, for one that sets port 0 to where the turnout is to lie."""
-    bus, place = words[1], words[3:]
+    bus = words[1]
+    place = words[3:]
     if len(place) != 4 or place[1] != "0" or place[2] not in ("0", "1"):
         return line
     return f"SET {bus} GA {place[0]} {place[2]} 1 {PULSE}".encode("latin-1")

@@ -42,7 +42,8 @@ BEGUN = "HTTP/1.1 200 OK\r\nContent-Type: text/event-stream\r\nCache-Control: no
 
 def is_ours(request: Request) -> bool:
     """Returns whether a page of ours asks: no other site's page, and no other site's name that leads here."""
-    host, site = request.headers.get("host", ""), request.headers.get("sec-fetch-site", "none")
+    host = request.headers.get("host", "")
+    site = request.headers.get("sec-fetch-site", "none")
     # A link may lead to the page, and no more.
     is_elsewhere = request.path != "/" and site not in ("none", "same-origin")
     return is_own(host) and request.headers.get("origin", f"http://{host}") == f"http://{host}" and not is_elsewhere
@@ -79,7 +80,7 @@ class Web:
         self.plan = read_plan(asked.plan)
         self.pages: dict[str, Page] = {}
         self.names = self.plan.names | names(asked.names)
-        self.mirror = Mirror(asked, self.told, lambda anew: self.tell(event("here", True)),
+        self.mirror = Mirror(asked, self.on_change, lambda anew: self.tell(event("here", True)),
                              lambda: self.tell(event("here", False)))
         address = address_of(asked.bind)
         self.is_open = not (address and address.is_loopback)
@@ -104,7 +105,7 @@ class Web:
                 self.tell(event("leftOut", found))
             await asyncio.sleep(DRIVERS_LOOK)
 
-    def told(self, change: Change) -> None:
+    def on_change(self, change: Change) -> None:
         self.tell(row_event(self.mirror, change.key, change.row))
         if isinstance(change.row, Power) and change.row.text.startswith((STOP_ALL, ALL_STOOD)):
             self.tell_stop()
@@ -178,7 +179,8 @@ class Web:
 
     async def obey(self, path: str, key: str, body: str, seen: int = 0) -> Answer:
         """Does what a page asks for; returns status, kind and body of the answer."""
-        page, numbers = self.pages.get(key), [int(word) for word in body.split() if word.isdecimal()]
+        page = self.pages.get(key)
+        numbers = [int(word) for word in body.split() if word.isdecimal()]
         caller = page or Page(self.mirror, None)  # also one that is gone: a stop is wanted nonetheless
         now = asyncio.get_running_loop().time()
         if page and now > page.heard + self.asked.silence:
@@ -226,7 +228,8 @@ class Web:
 
     async def events(self, reader: asyncio.StreamReader, writer: asyncio.StreamWriter, browser: str | None) -> bool:
         """Sends a page all rows and each change, until it is gone, silent, or too far behind."""
-        page, key = Page(self.mirror, browser), secrets.token_hex(16)
+        page = Page(self.mirror, browser)
+        key = secrets.token_hex(16)
         first = event("page", {"key": key, "names": self.names, "functions": self.plan.functions,
                                "plan": self.plan.drawing, "silence": self.asked.silence})
         first += event("here", self.mirror.here)
@@ -250,7 +253,8 @@ class Web:
     async def follow(self, page: Page, reader: asyncio.StreamReader, writer: asyncio.StreamWriter) -> str:
         """Sends a page each change until it goes; returns why it went."""
         loop = asyncio.get_running_loop()
-        gone, beat = asyncio.create_task(reader.read(1)), loop.time()
+        gone = asyncio.create_task(reader.read(1))
+        beat = loop.time()
         try:
             while not gone.done() and len(page.events) <= BEHIND:
                 if loop.time() >= beat:

@@ -363,10 +363,7 @@ class Hands(StationCase):
         self.assertEqual((self.station.cabs[10240], self.station.cabs[77]), ((41, 1), (41, 1)))
         self.has("101 INFO 1 GL 77 M 1 28 5", "100 INFO 1 GL 77 1 0 0")
         self.throttle.order("INIT 1 GL 77 N 1 126 5")
-        self.track(lambda s: s.cabs[77] == (0, 1), "it stands, as its new row says")
-        time.sleep(QUIET)  # the station says so first
-        self.station.hand(77, speed=41)
-        self.has("100 INFO 1 GL 77 1 41 126")
+        self.stands_and_is_driven("it stands, as its new row says")
 
     def test_what_a_hand_begins_to_drive_while_the_server_is_away(self):
         """It stands when the server is back."""
@@ -376,7 +373,11 @@ class Hands(StationCase):
         self.station.hand(77, speed=40)
         self.restart()
         until(lambda: self.driver.told().count("started anew") > joined, "it has joined")
-        self.track(lambda s: s.cabs[77] == (0, 1), "it stands")
+        self.stands_and_is_driven("it stands")
+
+    def stands_and_is_driven(self, why):
+        """Locomotive 77 was told to stand, and then a hand drives it."""
+        self.track(lambda s: s.cabs[77] == (0, 1), why)
         time.sleep(QUIET)  # the station says so first
         self.station.hand(77, speed=41)
         self.has("100 INFO 1 GL 77 1 41 126")

@@ -20,7 +20,7 @@ SETS = ["100 INFO 1 LOCK GA 1 0", "100 INFO 1 GA 1 0 1", "100 INFO 2 GA 1 2 1", 
 GIVES_BACK = ["100 INFO 2 GA 1 0 1", "100 INFO 3 FB 1 0", "102 INFO 1 LOCK GA 1"]
 
 
-class Box(Case):
+class BoxCase(Case):
     program = "box"
     layout = LAYOUT + '[[bus]]\nnumber = 3\ngroups = ["GA", "FB"]\nga_max = 9\nga_ports = 3\nfb_ports = 9\n'
 
@@ -68,6 +68,8 @@ class Box(Case):
         for number in (1, 2, 3):
             self.lies_back(number, bus=2)
 
+
+class Box(BoxCase):
     def test_a_route_is_set_and_given_back(self):
         self.begin()
         panel = self.follows()

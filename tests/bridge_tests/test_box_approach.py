@@ -2,8 +2,8 @@
 import time
 from pathlib import Path
 
-from .common import Case, new_folder, plan_of_two_buses, rows
-from .test_box import GIVES_BACK, SETS, STOPS, Box
+from .common import new_folder, plan_of_two_buses, rows
+from .test_box import GIVES_BACK, SETS, STOPS, BoxCase
 
 DELAY = 3  # seconds
 
@@ -15,15 +15,10 @@ def plan_of_an_approach():
     return path
 
 
-class BoxOfAnApproach(Case):
-    program = "box"
-    layout = Box.layout
-    is_at_rest, hears, follows, told = Box.is_at_rest, Box.hears, Box.follows, Box.told
-    ask, give = Box.ask, Box.give
-
+class BoxOfAnApproach(BoxCase):
     def begin(self, *told):
         """Starts the box, sets route 1, and has its approach tell this. Returns a panel."""
-        Box.begin(self, plan_of_an_approach())
+        super().begin(plan_of_an_approach())
         panel = self.follows()
         self.ask(1)
         self.hears(panel, *SETS)

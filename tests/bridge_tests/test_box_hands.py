@@ -2,16 +2,11 @@
 import time
 
 from . import common
-from .common import Case, free_port, plan_of_two_buses, position_of, rows, until
-from .test_box import GIVES_BACK, SETS, STOPS, Box
+from .common import free_port, plan_of_two_buses, position_of, rows, until
+from .test_box import GIVES_BACK, SETS, STOPS, BoxCase
 
 
-class BoxWithHands(Case):
-    program = "box"
-    layout = Box.layout
-    begin, is_at_rest, hears, follows = Box.begin, Box.is_at_rest, Box.hears, Box.follows
-    ask, give, is_set, told = Box.ask, Box.give, Box.is_set, Box.told
-
+class BoxWithHands(BoxCase):
     def setUp(self):
         super().setUp()
         from simulated_z21 import Z21

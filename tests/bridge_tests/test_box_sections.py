@@ -3,8 +3,8 @@ not."""
 import re
 from pathlib import Path
 
-from .common import Case, new_folder, plan_of_two_buses, position_of, rows
-from .test_box import GIVES_BACK, SETS, Box
+from .common import new_folder, plan_of_two_buses, position_of, rows
+from .test_box import GIVES_BACK, SETS, BoxCase
 
 SECTIONS = {5: "[[1, 7], [1, 5], [2, 8]]", 6: "[[1, 7], [1, 6], [2, 3]]"}  # the last one of route 2 is its block
 
@@ -19,15 +19,10 @@ def plan_of_sections():
     return path
 
 
-class BoxOfSections(Case):
-    program = "box"
-    layout = Box.layout
-    is_at_rest, hears, follows, told = Box.is_at_rest, Box.hears, Box.follows, Box.told
-    ask, give, is_set, lies_back = Box.ask, Box.give, Box.is_set, Box.lies_back
-
+class BoxOfSections(BoxCase):
     def begin(self):
         """Starts the box, and sets route 1. Returns a panel."""
-        Box.begin(self, plan_of_sections())
+        super().begin(plan_of_sections())
         panel = self.follows()
         self.ask(1)
         self.hears(panel, *SETS)

@@ -44,7 +44,7 @@ class Driving(Case):
         """A function, and a direction by a phone and by a topic, leave a train at rest that another put to rest, or a
         STOP ALL that its row does not show yet."""
         from srcp_bridges.srcp.driving import Driver, switch
-        from srcp_bridges.page.orders import Orders
+        from srcp_bridges.page.orders import TopicQueue
 
         async def by_function(mirror):
             await switch(mirror, lambda command, seen: mirror.ask(command), 1, 3, {1: 1})
@@ -53,7 +53,7 @@ class Driving(Case):
             await Driver(mirror, 1).drive(3, mode=0)
 
         async def by_topic(mirror):
-            orders, is_done = Orders(mirror, lambda *told: self.fail(told)), asyncio.Event()
+            orders, is_done = TopicQueue(mirror, lambda *told: self.fail(told)), asyncio.Event()
             carries_out = orders.carry_out
 
             async def carry_out(*what):
@@ -62,7 +62,7 @@ class Driving(Case):
 
             with mock.patch.object(orders, "carry_out", carry_out):
                 running = asyncio.create_task(orders.run())
-                orders.take("1/GL/3", '{"mode": 0}')
+                orders.on_message("1/GL/3", '{"mode": 0}')
                 async with asyncio.timeout(WAIT):
                     await is_done.wait()
             running.cancel()

@@ -298,10 +298,8 @@ class Z21StopAll(StopAll, Z21Case):
         self.throttle.order("SET 1 GL 3 1 0 28")
         self.track(lambda s: s.cabs[3] == (0, 1), "it stands")
         for _ in range(5):
-            time.sleep(QUIET)
-            self.station.loses = 1
-            self.station.hand(3, 90)
-            self.station.loses, begun = 0, time.monotonic()
+            self.drives_unheard()
+            begun = time.monotonic()
             self.throttle.order("SET 1 POWER ON stop all")
             self.has("100 INFO 1 POWER ON all stood")
             self.track(lambda s: s.power == 1, "power is on again")

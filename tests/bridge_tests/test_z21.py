@@ -33,6 +33,13 @@ class Z21Case(StationCase):
         self.track(lambda s: time.monotonic() - s.commanded > 2 * QUIET and (s.looked > 5 or not is_asked),
                    "all is confirmed")
 
+    def drives_unheard(self):
+        """A hand begins to drive locomotive 3, and the report of it is lost."""
+        time.sleep(QUIET)
+        self.station.loses = 1
+        self.station.hand(3, 90)
+        self.station.loses = 0
+
 
 class Z21(Drives, Z21Case):
     def test_turnouts_and_sensors(self):
@@ -134,10 +141,7 @@ class Z21WithLosses(Losses, Z21Case):
         self.throttle.order("SET 1 GL 3 1 0 28")
         self.track(lambda s: s.cabs[3] == (0, 1), "it stands")
         for _ in range(3):
-            time.sleep(QUIET)
-            self.station.loses = 1
-            self.station.hand(3, 90)
-            self.station.loses = 0
+            self.drives_unheard()
             self.station.overload()
             self.has("100 INFO 1 POWER OFF overload")
             self.throttle.order("SET 1 POWER ON")
@@ -148,10 +152,7 @@ class Z21WithLosses(Losses, Z21Case):
     def test_what_a_hand_began_to_drive_just_before_it_is_removed_and_the_report_was_lost(self):
         self.throttle.order("SET 1 GL 3 1 0 28")
         self.track(lambda s: s.cabs[3] == (0, 1), "it stands")
-        time.sleep(QUIET)
-        self.station.loses = 1
-        self.station.hand(3, 90)
-        self.station.loses = 0
+        self.drives_unheard()
         self.throttle.order("TERM 1 GL 3")
         self.track(lambda s: s.cabs[3] == (0, 1), "it stands", 5)
 

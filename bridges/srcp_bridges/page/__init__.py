@@ -1,1 +1,1 @@
-"""What is served to people: the page, phones and a broker's topics, and who may see and command what."""
+"""Services for people: the page, phones and a broker's topics, and who may see and command them."""

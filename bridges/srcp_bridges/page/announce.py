@@ -26,7 +26,8 @@ def addresses(server: asyncio.Server) -> list[str]:
 @contextlib.asynccontextmanager
 async def announced(kind: str, server: asyncio.Server, where: list[str]) -> AsyncIterator[None]:
     """Has a server be announced at these addresses as of a kind, such as `_withrottle._tcp`."""
-    host, port = socket.gethostname().partition(".")[0], server.sockets[0].getsockname()[1]
+    host = socket.gethostname().partition(".")[0]
+    port = server.sockets[0].getsockname()[1]
     name = f"srcp on {host.encode()[:LONGEST_HOST].decode('utf-8', 'ignore')}, port {port}"
     info = AsyncServiceInfo(f"{kind}.local.", f"{name}.{kind}.local.", port=port, server=f"{host}.local.",
                             parsed_addresses=where)
@@ -40,7 +41,7 @@ async def announced(kind: str, server: asyncio.Server, where: list[str]) -> Asyn
 
 
 async def announce(kind: str, server: asyncio.Server) -> None:
-    """Announces a server for as long as it runs, at the addresses that this machine has."""
+    """Announces a server while the server runs, at the addresses of this machine."""
     told = ""
     while zeroconf:
         try:

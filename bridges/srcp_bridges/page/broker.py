@@ -1,4 +1,4 @@
-"""A connection to an MQTT broker by paho-mqtt. It has a thread of its own, and hands what comes to that of asyncio."""
+"""A connection to an MQTT broker by paho-mqtt. Its thread hands each message to the thread of asyncio."""
 import argparse
 import asyncio
 import os

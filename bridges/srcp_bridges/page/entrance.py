@@ -9,7 +9,8 @@ from srcp_bridges.limits import PAUSE, TOKENS, WRONG_WORDS
 
 
 def guest_of(peer: str) -> str:
-    """Returns what counts as one machine: an IPv4 address, or 64 bits of an IPv6 one, whose rest it chooses."""
+    """Returns the name of a machine: an IPv4 address, or 64 bits of an IPv6 address, of which a machine chooses the
+    rest."""
     address = ipaddress.ip_address(peer.partition("%")[0])
     if isinstance(address, ipaddress.IPv4Address):
         return str(address)
@@ -20,8 +21,8 @@ class Entrance:
     """Knows the word, and the tokens of those who knew it.
 
     A token is random, one for each who enters, and kept here alone: after a restart everybody is asked again. `cookie`
-    is the name under which a browser keeps it: it has the port, since a browser sends all cookies of a host to each.
-    `rested` has the moment at which a guest who was wrong has all its trials again.
+    is the name under which a browser keeps a token. The name has the port, since a browser sends all cookies of a host
+    to each port. `rested` has the moment at which a guest who was wrong has all trials again.
     """
 
     def __init__(self, word: str, port: int, now: Callable[[], float] = time.monotonic):
@@ -45,7 +46,7 @@ class Entrance:
         self.rested[guest] = max(self.rested.get(guest, now), now) + PAUSE
 
     def enter(self, guest: str, word: str) -> str | None:
-        """Returns a new token if that is the word; else counts it as wrong."""
+        """Returns a new token for the right word, and counts any other as wrong."""
         if not hmac.compare_digest(word.encode(), self.word.encode()):
             self.wrong(guest)
             return None

@@ -1,4 +1,4 @@
-"""The names and addresses of this machine: those that a request may be for, and those that a person can type."""
+"""The names and addresses of this machine: for requests, and for people to type."""
 import ipaddress
 import pathlib
 import socket
@@ -46,7 +46,7 @@ def is_own(host: str, own: str | None = None, resolver: pathlib.Path = RESOLVER)
 
 
 def to_type(bind: str) -> str:
-    """Returns what a browser can be told to reach what listens at an address: it cannot go to 0.0.0.0."""
+    """Returns the address by which a browser reaches a server at an address: no browser goes to 0.0.0.0."""
     address = address_of(bind)
     if not address or not address.is_unspecified:
         return f"[{bind}]" if address and address.version == 6 else bind

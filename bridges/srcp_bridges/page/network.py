@@ -1,4 +1,4 @@
-"""How a page is found from other machines: by a word that stays, and by a code that a phone reads."""
+"""How a page is found from other machines: by a lasting word, and by a code for phones."""
 import contextlib
 import os
 import secrets
@@ -7,8 +7,8 @@ from pathlib import Path
 
 
 def kept_word() -> str:
-    """Returns the word of this machine's page: a random one, which is kept, so that it is the same at the next start. A
-    unit keeps its own, and else the user does. If it cannot be kept, it is another at each start."""
+    """Returns the word of this machine's page: a random word, kept for the next start by a unit or by the user. A word
+    that cannot be kept changes at each start."""
     states = os.environ.get("XDG_STATE_HOME") or Path.home() / ".local" / "state"
     file = Path(os.environ.get("STATE_DIRECTORY") or Path(states, "srcp_bridges"), "word")
     with contextlib.suppress(OSError):

@@ -1,4 +1,4 @@
-"""The commands that come to topics: in which order they are carried out, and which of them a stop refuses."""
+"""The commands of topics: the order in which commands are carried out, and which a stop refuses."""
 import asyncio
 from collections.abc import Awaitable, Callable
 from functools import partial
@@ -15,7 +15,8 @@ from srcp_bridges.srcp.stop import Locomotive, send, stop_all, stop_one
 
 
 class Order(NamedTuple):
-    """`locomotive`, and what is `wanted` of it, if the command is to one; how often it was stopped before, as `seen`.
+    """A command at a `place`. A command to a `locomotive` has what is `wanted`, and how often the locomotive was
+    stopped before (`seen`).
     """
     place: str
     text: str
@@ -28,11 +29,11 @@ class Order(NamedTuple):
 Work = Callable[[Order], Awaitable[None]]
 
 
-class Orders:
-    """Carries out what `waits` in order; `stops`, and what is `beside`, as they come.
+class TopicQueue:
+    """Carries out commands that wait in order; `stops`, and commands `beside` the others, as they come.
 
-    A command goes by the session that was there as it came, so none outlives the server that it was meant for. A STOP
-    ALL drops what waits; after any stop the others go on when it is done. `refused` is called with the place and the
+    A command goes by the session of the moment at which the command came, so no command outlives the server meant. A
+    STOP ALL drops commands that wait; all others go on when a stop is done. `refused` is called with the place and the
     text of each command that is not carried out, and with the reason.
     """
 
@@ -43,7 +44,7 @@ class Orders:
         self.stops: set[asyncio.Task[None]] = set()
         self.beside: set[asyncio.Task[None]] = set()
 
-    def take(self, place: str, text: str) -> None:
+    def on_message(self, place: str, text: str) -> None:
         """Takes in a command, in the order in which it came."""
         try:
             locomotive = locomotive_of(place)
@@ -77,7 +78,7 @@ class Orders:
             self.waits.put_nowait(order._replace(seen=seen))
 
     async def run(self) -> None:
-        """Carries out what waits, one after the other."""
+        """Carries out in turn the commands that wait."""
         while True:
             order = await self.waits.get()
             while self.stops:
@@ -108,7 +109,7 @@ class Orders:
             await order.session.ask(command)
 
     async def drive(self, order: Order) -> None:
-        """Changes of a locomotive what is wanted, and leaves the rest as the server says that it is."""
+        """Changes the wanted parts of a locomotive, and leaves the other parts as the server has them."""
         assert order.session and order.locomotive and order.wanted
         wanted = order.wanted
         await self.switch(order)
@@ -125,9 +126,10 @@ class Orders:
         await change(self.mirror, ask, bus, address, words, order.seen, order.wanted.v is None)
 
     async def switch(self, order: Order) -> None:
-        """Switches the functions that are wanted; none, if the locomotive has not all of them."""
+        """Switches the wanted functions; none if the locomotive lacks any."""
         assert order.session and order.locomotive and order.wanted
-        functions, (bus, address) = order.wanted.functions, order.locomotive
+        functions = order.wanted.functions
+        bus, address = order.locomotive
         made = self.mirror.rows.get((bus, "GL", address, "is"))
         if beyond := [number for number in functions if made and not 0 <= number < made.functions]:
             raise Refused(None, f"it has no function {beyond[0]}")

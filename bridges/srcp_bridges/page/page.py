@@ -1,4 +1,4 @@
-"""A page that is open in a browser: what it is sent, what it commands, and what stands as it goes."""
+"""An open page of a browser: the page's events, its commands, and the locomotives that stand as the page goes."""
 import asyncio
 import collections
 import json
@@ -21,8 +21,8 @@ def event(name: str, data: object) -> str:
 
 
 def row_event(mirror: Mirror, key: Key, row: Row | None) -> str:
-    """Returns the event of a row, and of what the rows before it tell: a locomotive's direction and how often it was
-    stopped, and how an accessory lies."""
+    """Returns the event of a row, with what earlier rows tell: a locomotive's direction and how often the locomotive
+    was stopped, and how an accessory lies."""
     bus, group, address, part = key
     told: dict[str, object] = {"key": key, "row": row and row._asdict()}
     if row and (group, part) == ("GL", "does"):
@@ -33,9 +33,9 @@ def row_event(mirror: Mirror, key: Key, row: Row | None) -> str:
 
 
 class Page:
-    """The events that wait for a page, and its session, once it has taken something.
+    """The events that wait for a page, and the page's session, once the page has taken a locomotive.
 
-    `taken` has the locomotives that it has locked. `drives` has, by locomotive, how it told it to drive.
+    `taken` has the locomotives locked by the page. `drives` has, by locomotive, the page's last command to drive.
     """
 
     def __init__(self, mirror: Mirror, browser: str | None):
@@ -56,7 +56,7 @@ class Page:
         self.more.set()
 
     def commander(self) -> Session:
-        """Returns the session that commands for this page: its own, if it has one, else that of all pages."""
+        """Returns the session that commands for this page: the page's own, if any, else the session of all pages."""
         if self.session and not self.session.ended.done():
             return self.session
         if not self.mirror.session:
@@ -64,7 +64,7 @@ class Page:
         return self.mirror.session
 
     async def refusal_of(self, act: Callable[[], Awaitable[object]]) -> Refused | None:
-        """Does something; returns why that was refused, or None."""
+        """Carries out an act; returns its refusal, or None."""
         if not self.mirror.session or self.mirror.session.ended.done():
             return refusal(Reason.AWAY)
         try:
@@ -100,12 +100,13 @@ class Page:
         return await self.refusal_of(lambda: stop_one(self.mirror, self.commander().ask, bus, address))
 
     async def carry_out(self, command: str, words: list[str], seen: int) -> None:
-        """Notes what the page drives before the command is sent: it may be closed before the reply has come."""
+        """Notes the locomotive before the command is sent: the page may be closed before the reply has come."""
         async with self.turn:
             if not self.open:
                 raise Refused(None, "this page is closed")
             if self.session and self.session.ended.done():
-                self.session, self.taken = None, set()
+                self.session = None
+                self.taken = set()
             if not self.session and words[2:3] == ["LOCK"]:
                 self.session = await Session.begin(self.mirror.server, whose="a page")
             drives = words[1:2] + words[3:7]
@@ -117,9 +118,10 @@ class Page:
                 self.taken.add((int(words[1]), int(words[4])))
 
     async def drive(self, command: str, locomotive: Locomotive, told: Told, seen: int) -> None:
-        """Carries out a command that has a locomotive drive as it is told: mode, V and Vmax."""
+        """Carries out a command by which a locomotive drives as `told`: mode, V and Vmax."""
         bus, address = locomotive
-        row, before = self.mirror.rows.get((bus, "GL", address, "does")), self.drives.get(locomotive)
+        row = self.mirror.rows.get((bus, "GL", address, "does"))
+        before = self.drives.get(locomotive)
         if before or not row or row[1:4] != told:  # if not, this switches functions alone, and another drives
             self.drives[locomotive] = told
         try:
@@ -129,7 +131,8 @@ class Page:
             raise
 
     async def close(self) -> None:
-        """Has the locomotives stand that it has taken, and those that drive as it told last; ends its session."""
+        """Has each locomotive stand that the page has taken, or that drives as the page told last; ends the page's
+        session."""
         async with self.turn:
             self.open = False
             for bus, address in self.taken | self.drives.keys():
@@ -141,7 +144,8 @@ class Page:
             self.session.transport.close()
 
     async def leave(self, bus: int, address: int) -> None:
-        """The server knows best how it drives and who has it; a row of the mirror may be on its way."""
+        """Asks the server how the locomotive drives and who has locked it, since a row of the mirror may be on its way.
+        """
         session = self.commander()
         drive = drive_told(await session.ask(f"GET {bus} GL {address}"))
         is_own = drive[1:4] == self.drives.get((bus, address))

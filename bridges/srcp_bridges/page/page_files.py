@@ -1,4 +1,4 @@
-"""The files of the page, as they were when this program began: what replaces them meanwhile is for its next start."""
+"""The files of the page, as read when this program began: a newer file is for the next start."""
 import hashlib
 import pathlib
 

@@ -1,4 +1,4 @@
-"""A phone that is connected: its lines come in, wait, and are carried out."""
+"""A connected phone: lines come in, wait, and are carried out."""
 import asyncio
 import socket
 
@@ -40,7 +40,7 @@ class Phone:
         elif not self.writer.is_closing():
             self.writer.write(text.encode() + b"\r\n")
 
-    def take(self, text: str, by_phone: bool = True) -> None:
+    def on_line(self, text: str, by_phone: bool = True) -> None:
         """Takes in a line, of the phone or, if it is silent, of this program."""
         if text in ("*+", "*-"):
             self.watched = text == "*+"
@@ -68,11 +68,12 @@ class Phone:
         return now - self.looked > WAS_STOPPED or now - self.went_on < WAS_STOPPED
 
     def was_silent(self) -> bool:
-        """Returns whether the phone has just come back after a silence: what comes in then may be as old as that."""
+        """Returns whether the phone has just come back after a silence: a line that comes in then may be as old as the
+        silence."""
         return asyncio.get_running_loop().time() - self.came_back < WAS_STOPPED
 
     async def next_line(self) -> str:
-        """Returns the next line. A phone that is silent is stopped, and after a while it counts as gone."""
+        """Returns the next line. A silent phone is stopped, and counts as gone after a while."""
         if self.waiting.qsize() >= LINES_WAITING and self.words.lines % READ_AT_ONCE == 0:
             await asyncio.sleep(0)  # other phones have their turn
         for seconds in (self.layout.asked.heartbeat if self.watched else None, self.layout.asked.patience):
@@ -81,10 +82,11 @@ class Phone:
                     line = (await self.reader.readuntil(b"\n")).decode("utf-8", "replace").strip()
             except TimeoutError:
                 self.is_silent = True
-                self.take(STOP_EVERY, by_phone=False)
+                self.on_line(STOP_EVERY, by_phone=False)
                 continue
             if self.is_silent:
-                self.is_silent, self.came_back = False, asyncio.get_running_loop().time()
+                self.is_silent = False
+                self.came_back = asyncio.get_running_loop().time()
             return line
         raise ConnectionError("silent for too long")
 
@@ -94,15 +96,16 @@ class Phone:
         try:
             async with asyncio.timeout(NAMELESS):
                 while text != END and not text.startswith("N"):
-                    self.take(text := await self.next_line())
+                    self.on_line(text := await self.next_line())
         except TimeoutError:
             return "told no name"
         while text != END:
-            self.take(text := await self.next_line())
+            self.on_line(text := await self.next_line())
         return "said good-bye"
 
     async def read_all(self) -> None:
-        """Takes in all lines. At the end all stands at once that the phone has taken, and then what waits is done."""
+        """Takes in all lines. At the end all locomotives taken by the phone stand at once, and then the waiting lines
+        are done."""
         why = "this program is ended"
         try:
             why = await self.read()
@@ -112,7 +115,7 @@ class Phone:
             why = str(fault)
         finally:
             say(f"phone {self.peer}: {why}")
-            self.take(STAND_EVERY, by_phone=False)
+            self.on_line(STAND_EVERY, by_phone=False)
             self.waiting.put_nowait(self.words.line(END))
 
     async def carry_out(self) -> None:
@@ -132,7 +135,7 @@ class Phone:
             self.writer.close()
 
     async def drive(self) -> None:
-        """Has a phone drive until it has gone; then what it had taken stands."""
+        """Has a phone drive until the phone has gone; then the locomotives that it had taken stand."""
         say(f"phone {self.peer}: joined")
         connection = self.writer.get_extra_info("socket")
         connection.setsockopt(socket.SOL_SOCKET, socket.SO_KEEPALIVE, 1)

@@ -28,7 +28,7 @@ KINDS = "PTT]\\[Turnouts}|{Turnout]\\[Closed}|{2]\\[Thrown}|{4]\\[Unknown}|{1"
 
 
 class Layout:
-    """The rows of the bus, and the phones that follow them."""
+    """The rows of the bus, and the phones that follow these rows."""
 
     def __init__(self, asked: argparse.Namespace):
         plan = read_plan(asked.plan)
@@ -39,10 +39,10 @@ class Layout:
         self.phones: set[Phone] = set()
         self.due: set[str] = set()  # the lists that are about to be told anew
         self.joined = asyncio.Event()
-        self.mirror = Mirror(asked, self.told, lambda anew: self.joined.set())
+        self.mirror = Mirror(asked, self.on_change, lambda anew: self.joined.set())
         self.routes = Routes(self.mirror, plan)
 
-    def told(self, change: Change) -> None:
+    def on_change(self, change: Change) -> None:
         bus, group, address, part = change.key
         if bus == self.routes.bus and address in self.routes.names:
             self.told_of_route(group, address, part)
@@ -64,19 +64,19 @@ class Layout:
                 phone.view.route(number)
 
     def power_changed(self, before: Power | None, row: Power) -> None:
-        """As the power goes off, refuses what phones sent before. If there is a reason, it was a loss, or a STOP ALL
-        that could not stop what phones have locked: all of that is put to rest, so that nothing drives as the power
-        comes back. Of a server that was started anew only that reason tells."""
+        """As the power goes off, refuses earlier lines of phones. A reason means a loss, or a STOP ALL that could not
+        stop the phones' locked locomotives: these are put to rest, so none drives as the power comes back. Of a server
+        started anew only the reason tells."""
         is_new = bool(row.text) and (not before or before.text != row.text) and not row.text.startswith(CONFIRMING)
         if row.on or not (before and before.on or is_new):
             return
         self.mirror.stops.all += 1
         if row.text:
             for phone in self.phones:
-                phone.take(STAND_EVERY, by_phone=False)
+                phone.on_line(STAND_EVERY, by_phone=False)
 
     async def look_for_bus(self) -> None:
-        """Looks at each server that is joined whether it has the bus."""
+        """Asks each joined server whether it has the bus."""
         while True:
             await self.joined.wait()
             self.joined.clear()
@@ -111,7 +111,7 @@ class Layout:
         return sorted(key[2] for key in self.mirror.rows if (key[0], key[1], key[3]) == (self.bus, group, "is"))
 
     def address(self, key: str, entry: str = "") -> int | None:
-        """Returns the address that a key (S3, L341) is of; that of a name in the roster, if the key has none."""
+        """Returns the address in a key (S3, L341), or the address of a name in the roster, if the key has none."""
         if number := re.fullmatch("[SL]([0-9]{1,5})", key):
             return int(number[1])
         named = (address for address in self.addresses("GL") if self.name("GL", address) == entry)
@@ -122,7 +122,7 @@ class Layout:
         return UNKNOWN if port is None else THROWN if port else CLOSED
 
     def power(self) -> tuple[str, str]:
-        """Returns what phones are told of the power, and why it is off, or what is wrong with it, if that is known."""
+        """Returns the lines of the power for phones, and why the power is off, or its fault, if known."""
         power = self.mirror.rows.get((self.bus, "POWER", 0, "does"))
         if power and power.on:
             return "PPA1", power.text if power.text.startswith(UNCONFIRMED) else ""

@@ -11,8 +11,8 @@ KINDS = f"PRT]\\[Routes}}|{{Route]\\[Active}}|{{{ACTIVE}]\\[Inactive}}|{{{INACTI
 
 
 class Routes:
-    """Accessory n of their bus asks for route n by its port 1, and gives it back by its port 0. Sensor n tells that the
-    route is set. Phones are offered a route as soon as its accessory is there: then a program sets routes."""
+    """Port 1 of accessory n of the routes' bus asks for route n, and port 0 gives the route back. Sensor n tells
+    whether route n is set. Phones are offered a route once accessory n is there: then a program sets routes."""
 
     def __init__(self, mirror: Mirror, plan: Plan):
         drawing = plan.drawing or {"bus": None, "routes": []}
@@ -38,7 +38,7 @@ class Routes:
         return sorted(filter(self.is_there, self.names))
 
     def told(self) -> list[str]:
-        """Returns what phones are told of the routes that are there: nothing if there is none."""
+        """Returns the lines of the routes for phones; none if there is no route."""
         entries = [f"{number}}}|{{{self.names[number]}}}|{{{self.state(number)}" for number in self.there()]
         return [KINDS, "]\\[".join([NO_ROUTES, *entries])] if entries else []
 

@@ -16,12 +16,12 @@ Part = str | tuple[str, int] | tuple[Which, int | str]
 
 
 def speed_of(drive: Drive | None) -> int:
-    """Returns the speed of a locomotive as phones are told it, of 126: above 0 if it drives."""
+    """Returns the speed of a locomotive for phones, of 126: above 0 for a locomotive that drives."""
     return -(-drive.v * TOP // (drive.v_max or TOP)) if drive else 0
 
 
 class View:
-    """Tells a phone what it does not show yet. `shown` has what it was told, by the parts of its screen.
+    """Tells a phone what the phone does not show yet. `shown` has what was told, by the parts of the screen.
 
     A locomotive on the screen is named by its throttle and key: ("0", "S3").
     """
@@ -33,7 +33,7 @@ class View:
         self.shown: dict[Part, str] = {}
 
     def begin(self) -> None:
-        """Tells a phone that has come what there is."""
+        """Tells a new phone all parts."""
         for text in self.layout.greeting():
             self.say(text)
         self.shown |= self.layout.routes.shown()
@@ -75,17 +75,17 @@ class View:
         self.show((which, "V"), f"{begin}V{speed_of(drive)}")
 
     def forget(self, which: Which, *parts: str) -> None:
-        """Forgets what the phone was told of a locomotive, or a part of that."""
+        """Forgets what the phone was told of a locomotive, or of a part."""
         for part in [part for part in self.shown if part[0] == which and (not parts or part[1] in parts)]:
             del self.shown[part]
 
     def anew(self, which: Which, *parts: str) -> None:
-        """Tells a locomotive, or a part of it, though it may be shown already."""
+        """Tells a locomotive, or a part, though the phone may show this already."""
         self.forget(which, *parts)
         if which in self.taken:
             self.changed("GL", self.taken[which])
 
     def again(self, part: Part, group: str, address: int) -> None:
-        """Tells another part of the screen though it may be shown already: the phone may show what it wished for."""
+        """Tells another part of the screen, though the phone may show this already: the phone may show a wish."""
         self.shown.pop(part, None)
         self.changed(group, address)

@@ -1,4 +1,4 @@
-"""What the lines of a phone say, and what is done for it."""
+"""The lines of a phone, and what is done for each."""
 from __future__ import annotations
 
 import re
@@ -24,10 +24,10 @@ POWER = ("", "power")
 
 
 class Line(NamedTuple):
-    """A line of a phone. Lines are carried out as they are sorted. `stops` gives how often others had stopped the
-    locomotive of an address as the line came in. `is_old`: this program was stopped then, so others may have stopped
-    what they have stopped after the phone sent the line. `by_phone`: if not, this program says it, as for a phone that
-    is silent. `is_held`: the network may have held it back for as long as the phone was silent."""
+    """A line of a phone. Lines are carried out in their sorted order. `stops` gives how often others had stopped the
+    locomotive of an address as the line came in. `is_old`: this program was stopped then, so a stop by others may be
+    newer than the line. `by_phone`: if not, this program says the line, as for a silent phone. `is_held`: the network
+    may have held the line back for as long as the phone was silent."""
     turn: int
     number: int
     text: str
@@ -38,10 +38,10 @@ class Line(NamedTuple):
 
 
 class Words:
-    """Carries out what the lines of a phone say. `stopped` has the number of the last line that stopped something: by
-    throttle and key, and by address. `answered` has, by address, the stops by others that the phone has answered by one
-    of its own, or that were before it took the locomotive. After any other stop its lines may be older: the network
-    holds lines back. So they do not have it drive faster.
+    """Carries out what the lines of a phone say. `stopped` has the number of the last line with a stop: by throttle and
+    key, and by address. `answered` has, by address, the stops by others that the phone has answered by a stop, or that
+    came before the phone took the locomotive. After any other stop the phone's lines may be older, since the network
+    holds lines back. So these lines make no locomotive faster.
     """
 
     def __init__(self, layout: Layout, driver: Driver, view: View, say: Callable[[str], None]):
@@ -58,12 +58,13 @@ class Words:
         self.told: dict[Which, list[tuple[int, int]]] = {}  # the stops that the phone was told of, by locomotive
 
     def line(self, text: str, is_old: bool = False, by_phone: bool = True, is_held: bool = False) -> Line:
-        """Takes note of a line as it comes in. If it stops something, what waits does not start that again."""
+        """Takes note of a new line. Waiting lines do not start again what the line stops."""
         self.lines += 1
         turn = URGENT if (found := STOPS.fullmatch(text)) or text == "PPA0" else USUAL
         if turn == URGENT:
             self.stopped[(found[1], found[2]) if found else POWER] = self.lines
-        counted, own = self.layout.mirror.stops.now(), self.own.copy()
+        counted = self.layout.mirror.stops.now()
+        own = self.own.copy()
         return Line(turn, self.lines, text, lambda address: counted(self.bus, address) - own[address], is_old,
                     by_phone, is_held)
 
@@ -72,11 +73,11 @@ class Words:
         return self.layout.mirror.stops.count(self.bus, address) - self.own[address]
 
     def is_late(self, line: Line, *names: Which | int) -> bool:
-        """Returns whether the phone itself stopped one of these after it sent the line."""
+        """Returns whether the phone itself stopped any of these after the line was sent."""
         return any(self.stopped.get(name, 0) > line.number for name in names)
 
     def refuse_old(self, line: Line) -> None:
-        """Refuses what may not be wanted any more. What stops is wanted."""
+        """Refuses a line that may be out of date. A stop never is."""
         if line.is_old and line.turn == USUAL:
             raise Refused(None, OLD)
 
@@ -120,7 +121,7 @@ class Words:
             raise Refused(None, "; ".join(dict.fromkeys(refusals)))
 
     async def add(self, which: Which, words: str, line: Line) -> None:
-        """Takes a locomotive, by the address in its key. One that another phone has is offered instead."""
+        """Takes a locomotive, by the address in the key. A locomotive of another phone is offered instead."""
         throttle, key = which
         if not (address := self.layout.address(key, words[1:] if words[:1] == "E" else "")):
             raise Refused(None, f"no locomotive {words or key}")
@@ -140,7 +141,7 @@ class Words:
         self.say(self.about(which, STEPS))
 
     async def steal(self, which: Which, line: Line) -> None:
-        """Takes a locomotive that another phone has. It drives on as it does."""
+        """Takes the locomotive of another phone. The locomotive drives on unchanged."""
         address = self.layout.address(which[1])
         if address and (holder := self.layout.holder(address)):
             await holder.words.yield_to(self.driver, address)
@@ -185,8 +186,8 @@ class Words:
         await stop_one(self.layout.mirror, self.driver.ask, self.bus, address)
 
     async def move(self, which: Which, line: Line, mode: int | None, v: int | None) -> None:
-        """Changes speed or direction, unless the phone has stopped the locomotive since. While stops by others are
-        not answered, one that drives is made slower, and no more; one that stands is turned."""
+        """Changes speed or direction, unless the phone has stopped the locomotive since. While stops by others are not
+        answered, a locomotive that drives is only made slower, and a locomotive that stands is turned."""
         address = self.driver.taken[which]
         if self.is_late(line, address, which, (which[0], EVERY), (EVERY, EVERY), POWER):
             return
@@ -197,13 +198,13 @@ class Words:
 
     def unanswered(self, throttle: str) -> list[tuple[int, int]]:
         """Returns which locomotives of a throttle others have stopped, and how often, if the phone has not answered.
-        Those of one throttle are coupled: if one of them is to stand, the others do not push it."""
+        The locomotives of a throttle are coupled: if one is to stand, the others do not push."""
         together = sorted({address for which, address in self.driver.taken.items() if which[0] == throttle})
         stops = [(address, self.others(address)) for address in together]
         return [(address, count) for address, count in stops if count > self.answered[address]]
 
     def refuse(self, which: Which, stopped: list[tuple[int, int]]) -> None:
-        """Tells the phone once why its locomotive does not drive, and each time how it does."""
+        """Tells the phone once why the locomotive does not drive, and each time how the locomotive drives."""
         if self.told.get(which) == stopped:
             return self.view.anew(which)
         self.told[which] = stopped
@@ -212,7 +213,8 @@ class Words:
 
     async def function(self, which: Which, act: str, number: int, on: int) -> None:
         """F is the button of a function, pressed or let go; f sets the function; m says which buttons do not toggle."""
-        momentary, address = self.momentary[which], self.driver.taken[which]
+        momentary = self.momentary[which]
+        address = self.driver.taken[which]
         if act == "m":
             (momentary.add if on else momentary.discard)(number)
             self.say(self.about(which, f"m{on}{number}"))
@@ -222,7 +224,7 @@ class Words:
             await self.driver.switch(address, {number: None})
 
     def answer(self, which: Which, address: int, words: str) -> None:
-        """Tells what a phone asks for. It cannot choose the steps (s): V goes to 126 for every locomotive."""
+        """Tells a phone an asked value. No phone can choose the steps (s): V goes to 126 for every locomotive."""
         if words in ("qV", "qR"):
             self.view.anew(which, words[1])
         elif words == "qs" or re.fullmatch("s[0-9]{1,2}", words):
@@ -248,7 +250,7 @@ class Words:
             self.answered |= {address: line.stops(address) + is_on for address in self.driver.taken.values()}
 
     async def route(self, name: str) -> None:
-        """Asks for a route, or gives back one that is set or waits."""
+        """Asks for a route, or gives back a route that is set or waits."""
         routes = self.layout.routes
         if not name.isdecimal() or not routes.is_there(int(name)):
             raise Refused(None, f"no route {name}" if routes.told() else "this layout has no routes")

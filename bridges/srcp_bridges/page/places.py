@@ -1,4 +1,4 @@
-"""How many connections a program serves at once: of one address, so that no machine takes all places, and in all."""
+"""How many connections a program serves at once: in all, and of each address, since a machine could take all places."""
 import argparse
 import asyncio
 import collections
@@ -53,7 +53,8 @@ async def look_after(writer: asyncio.StreamWriter) -> None:
 
 @contextlib.asynccontextmanager
 async def listen(serve: Serve, bind: str, port: int, limit: int = LONGEST_IN_STREAM) -> AsyncIterator[asyncio.Server]:
-    """Serves connections at an address of this machine. As it ends it takes no more, and waits for none."""
+    """Serves connections at an address of this machine. As the server ends it takes no more connections, and waits for
+    none."""
     async def served(reader: asyncio.StreamReader, writer: asyncio.StreamWriter) -> None:
         asyncio.create_task(look_after(writer))  # ends with the connection, or with this program
         with contextlib.suppress(asyncio.CancelledError):  # this program is ended, of which asyncio tells a traceback

@@ -1,4 +1,4 @@
-"""What a browser asks for, and what it is answered: as much of HTTP as the page takes."""
+"""The requests of a browser, and the answers: as much of HTTP as the page takes."""
 import asyncio
 from collections.abc import Iterable
 from typing import NamedTuple
@@ -28,7 +28,7 @@ class Request(NamedTuple):
 
 
 async def read_request(reader: asyncio.StreamReader, idle: float = IDLE) -> Request:
-    """Returns the next request of a connection. If none comes that can be read, raises one of NO_REQUEST."""
+    """Returns the next request of a connection. If no readable request comes, raises one of NO_REQUEST."""
     async with asyncio.timeout(idle):
         begun = await reader.readexactly(1)
     async with asyncio.timeout(ARRIVE):

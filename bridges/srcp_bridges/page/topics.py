@@ -21,7 +21,7 @@ Payload = str | None  # None: there is nothing any more
 
 
 class Wanted(NamedTuple):
-    """What is wanted of a locomotive. None: as it is."""
+    """The wanted state of a locomotive. None: as before."""
     mode: int | None = None
     v: int | None = None
     v_max: int | None = None
@@ -29,9 +29,10 @@ class Wanted(NamedTuple):
 
 
 def shown(rows: Rows, key: Key) -> dict[str, Payload]:
-    """Returns the topics at which a row is shown, and their payloads: nothing for what is not there."""
+    """Returns the topics of a row, and their payloads, which are None for a row that is gone."""
     bus, group, address, part = key
-    row, at = rows.get(key), f"{bus}/{group}" + f"/{address}" * (group != "POWER")
+    row = rows.get(key)
+    at = f"{bus}/{group}" + f"/{address}" * (group != "POWER")
     if group == "POWER":
         power = row if isinstance(row, Power) else None
         return {at: power and ("ON" if power.on else "OFF"), f"{at}/text": power and power.text}
@@ -65,7 +66,8 @@ def entity(rows: Rows, key: Key, at: str) -> tuple[str, dict[str, object]] | Non
     return None
 
 def common(own: str, name: str, prefix: str) -> dict[str, object]:
-    """Returns what each announcement to Home Assistant has: its name, who sends it, and whether that is there."""
+    """Returns the part of each announcement to Home Assistant: the name, the sender, and whether the sender is there.
+    """
     return {"name": name, "unique_id": f"{node(prefix)}_{own}", "availability_topic": f"{prefix}online",
             "device": {"identifiers": [node(prefix)], "name": "Layout"}}
 
@@ -83,7 +85,8 @@ def announced(rows: Rows, key: Key, prefix: str, names: Mapping[str, str]) -> tu
     if not (found := entity(rows, key, prefix + at)):
         return None
     kind, words = found
-    own, name = f"{bus}_{group}_{address}", at.replace("/", " ")
+    own = f"{bus}_{group}_{address}"
+    name = at.replace("/", " ")
     is_there = words["options"] if kind == "select" else key in rows
     announcement = json.dumps(words | common(own, names.get(name, name), prefix)) if is_there else None
     return f"{kind}/{node(prefix)}/{own}", announcement
@@ -108,7 +111,7 @@ def locomotive_of(place: str) -> Locomotive | None:
 
 
 def wanted_of(text: str) -> Wanted:
-    """Returns what a payload wants of a locomotive: it has a speed, or members of the row as JSON."""
+    """Returns the state of a locomotive wanted by a payload: a speed, or members of the row as JSON."""
     given = json.loads(text)
     given = given if isinstance(given, dict) else {"v": given}
     if unknown := given.keys() - set(Wanted._fields):

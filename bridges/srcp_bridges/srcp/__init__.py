@@ -1,1 +1,1 @@
-"""What programs share that speak SRCP: sessions at the server, a mirror of its registry, driving, and stopping."""
+"""For all programs that speak SRCP: sessions at the server, a mirror of the registry, driving, and stopping."""

@@ -1,4 +1,4 @@
-"""A session that drives locomotives for somebody: what is taken is locked, and stands when it is given back."""
+"""A session that drives locomotives for somebody: a taken locomotive is locked, and stands when given back."""
 import asyncio
 import contextlib
 from collections.abc import Awaitable, Callable, Collection, Iterable, Mapping
@@ -18,11 +18,12 @@ AskUnlessStopped = Callable[[str, int | None], Awaitable[Reply]]  # carries out 
 
 async def change(mirror: Mirror, ask: AskUnlessStopped, bus: int, address: int, words: Words, seen: int,
                  keeps_speed: bool = True) -> None:
-    """Commands a locomotive by the words that `words` makes of its direction and its row: mode, V, Vmax and functions.
+    """Commands a locomotive by the words that `words` makes of the direction and the row: mode, V, Vmax and functions.
 
-    `ask` carries out a command, and is told how many stops were counted as it was wanted: `seen`. One that comes
+    `ask` carries out a command, and is told how many stops were counted as it was wanted: `seen`. A stop that comes
     meanwhile is not undone. If the speed is kept, a V of 0 that another sets meanwhile is not undone either: the server
-    takes whole rows alone, so that 0 may be overwritten. The panel tells so, and then the locomotive is put to 0 again.
+    takes whole rows alone, so a V of 0 may be overwritten. The panel tells the 0, and then the locomotive is put to 0
+    again.
     """
     now = drive_told(await ask(f"GET {bus} GL {address}", seen))
     mode, v, *others = words(await mirror.way_by(bus, address, now), now)
@@ -49,15 +50,15 @@ async def switch(mirror: Mirror, ask: AskUnlessStopped, bus: int, address: int,
 
 
 def used(command: str) -> int:
-    """Returns the address of the locomotive that a command has drive, or whose functions it switches, or 0."""
+    """Returns the address of the locomotive that a command drives, or whose functions a command switches, or 0."""
     words = command.split()
     is_used = words[:1] + words[2:3] == ["SET", "GL"] and (words[5] != "0" or len(words) > 7)
     return int(words[3]) if is_used else 0
 
 
 class Driver:
-    """Begins its session when it is first needed. `taken` has addresses by the names under which they were taken, and
-    `unused` has those of locomotives that were made here and that nobody has driven. `name` is that of whoever drives.
+    """Begins a session at the first need. `taken` has addresses by the names under which they were taken, and `unused`
+    the addresses of locomotives made here and driven by no one yet. `name` is that of whoever drives.
     """
 
     def __init__(self, mirror: Mirror, bus: int):
@@ -89,7 +90,7 @@ class Driver:
         raise AssertionError("the last try has returned, or raised")
 
     async def joined(self) -> Session:
-        """Returns the session. One that begins anew first takes what was taken."""
+        """Returns the session. A session that begins anew first takes the taken locomotives."""
         async with self.beginning:
             if not self.session:
                 session = await Session.begin(self.mirror.server, whose=self.name)
@@ -100,7 +101,7 @@ class Driver:
             return self.session
 
     async def make(self, ask: Ask, device: str, asks: str, makes: str) -> bool:
-        """Makes a device if it is not there; returns whether it was made. `ask` carries out a command."""
+        """Makes a device that is not there; returns whether it was made. `ask` carries out a command."""
         try:
             await ask(f"GET {self.bus} {device} {asks}")
             return False
@@ -109,7 +110,7 @@ class Driver:
             return True
 
     async def lock(self, ask: Ask, address: int, version: int = 1) -> None:
-        """Locks a locomotive, and makes it if it is not there. `ask` carries out a command."""
+        """Locks a locomotive, made first if it is not there. `ask` carries out a command."""
         is_made = await self.make(ask, f"GL {address}", "", f"N {version} {TOP} {MOST_FUNCTIONS}")
         await ask(f"SET {self.bus} LOCK GL {address} 0")
         if is_made:
@@ -147,7 +148,7 @@ class Driver:
             await self.ask(f"TERM {self.bus} LOCK GL {address}")
 
     async def yield_to(self, other: "Driver", address: int) -> None:
-        """Unlocks a locomotive that another driver is about to take. It drives on as it does."""
+        """Unlocks a locomotive that another driver is about to take. The locomotive drives on unchanged."""
         for name in [name for name, taken in self.taken.items() if taken == address]:
             del self.taken[name]
         if address in self.unused:

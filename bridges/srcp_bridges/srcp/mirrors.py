@@ -17,14 +17,14 @@ from srcp_bridges.state import driven
 
 
 class Mirror:
-    """The registry, row by row, and a command session beside it, which ends with the server alone.
+    """The registry, row by row, and a command session beside, which ends with the server alone.
 
     `told` is called with each Change, `joined` with whether the server was started anew, `left` when it is gone. After
-    a restart all rows of before go; after an overrun those that the server has not. Rows listed as before are not told.
-    `here`: its panel is open. `anew`: the server that it lists was started anew. `ways` has the direction that each
-    locomotive was told last, by (bus, address), `recent` its last rows, and `stops` how often it was stopped. `drivers`
-    has the buses whose power had a text that a driver sets. With `keeps_place` it has a connection more, for a panel
-    that is lost while the server is full.
+    a restart all rows of before go; after an overrun the rows that the server has not. Rows listed as before are not
+    told. `here`: the panel is open. `anew`: the listed server was started anew. By (bus, address) of a locomotive,
+    `ways` has the direction told last, `recent` the last rows, and `stops` how often it was stopped. `drivers` has the
+    buses whose power had a text of a driver. `keeps_place` is for a further connection, in case the panel is lost while
+    the server is full.
     """
 
     def __init__(self, asked: argparse.Namespace, told: Callable[[Change], None] = lambda change: None,
@@ -55,20 +55,22 @@ class Mirror:
                 await self.follow()
             except (OSError, Refused) as fault:
                 say(f"server: {str(fault) or 'no answer'}")
-            was_here, self.here = self.here, False
+            was_here = self.here
+            self.here = False
             if was_here:
                 self.left()
             await asyncio.sleep(self.again)
 
     async def join(self) -> Session:
-        """Returns the session at the server that is there. If it was started anew, all rows of before go."""
+        """Returns the session at the server. If the server was started anew, all rows of before go."""
         try:
             if self.session and await self.session.ask(f"GET 0 SESSION {self.session.id}"):
                 self.anew = False
                 return self.session
         except ConnectionError:
             pass  # that server is gone
-        self.anew, session = True, await self.begin()
+        session = await self.begin()
+        self.anew = True
         self.drivers.clear()
         self.stopped.clear()
         for device in reversed(devices(self.rows)):  # so sessions go last, as at the server
@@ -100,17 +102,18 @@ class Mirror:
             panel.transport.abort()
 
     async def begin(self, take: Take | None = None) -> Session:
-        """Begins a session, at a full server by the connection that was kept for that."""
+        """Begins a session, at a full server by the kept connection."""
         try:
             return await Session.begin(self.server, take)
         except ServerIsFull:
-            spare, self.spare = self.spare, None
+            spare = self.spare
+            self.spare = None
             if not spare or spare.ended.done():
                 raise
             return await spare.go(take)
 
     async def keep_place(self) -> None:
-        """Keeps a connection, if this mirror is to have one. If the server closes it, another is opened."""
+        """Keeps a connection, if this mirror is to have one. If the server closes the connection, another is opened."""
         while self.keeps_place:
             if not self.spare or self.spare.ended.done():
                 with contextlib.suppress(OSError):
@@ -124,7 +127,8 @@ class Mirror:
         return await self.session.ask(command)
 
     async def look_for_bus(self, number: int, named: str = "--bus") -> None:
-        """Raises Wrong if the server has no bus of that number. `named` says which of this program's words names it."""
+        """Raises Wrong if the server has no bus of this number. `named` says which of this program's words names the
+        bus."""
         try:
             await self.ask(f"GET {number} POWER")
         except Refused as reply:
@@ -132,12 +136,12 @@ class Mirror:
                 raise Wrong(f"{named} {number}: the server has no such bus") from None
 
     def way(self, bus: int, address: int) -> int:
-        """Returns the direction of a locomotive: the one that its rows told last. An emergency stop tells none."""
+        """Returns the direction of a locomotive, as told last by a row. An emergency stop tells none."""
         return self.ways.get((bus, address), FORWARD)
 
     async def way_by(self, bus: int, address: int, row: Drive) -> int:
-        """Returns the direction of a locomotive whose row the server has just told. After an emergency stop it is that
-        of before: the panel may be late, so it is waited for until it has told that row too."""
+        """Returns the direction of a locomotive whose row the server has just told. An emergency stop keeps the
+        direction of before. The panel may be late, so the panel is awaited until it has told the row too."""
         ends = asyncio.get_running_loop().time() + ANSWER
         while row.mode == EMERGENCY_STOP and self.here and asyncio.get_running_loop().time() < ends:
             told = self.rows.get((bus, "GL", address, "does"))
@@ -147,8 +151,8 @@ class Mirror:
         return self.way(bus, address) if row.mode == EMERGENCY_STOP else row.mode
 
     def has_stood(self, bus: int, address: int, since: Drive) -> bool:
-        """Returns whether the panel has told that a locomotive stood, or that all were to stand, after it had that row,
-        which the server told."""
+        """Returns whether the panel has told that a locomotive stood, or that all were to stand, after a row told by
+        the server."""
         told = list(self.recent[bus, address])
         later = told[told.index(since) + 1:] if since in told else [row for row in told if row.stamp > since.stamp]
         return any(not row.v for row in later) or since.stamp <= self.stopped[bus]
@@ -161,7 +165,7 @@ class Mirror:
     async def get(self, key: Key) -> Row | None: ...
 
     async def get(self, key: Key) -> Row | None:
-        """Returns the row that the server has at this moment, or None. It tells no row whose part is `is`."""
+        """Returns the server's row of this moment, or None. The server tells no row whose part is `is`."""
         bus, group, address, part = key
         words = f"LOCK {group} {address}" if part == "lock" else "POWER" if group == "POWER" else f"{group} {address}"
         try:
@@ -184,7 +188,7 @@ class Mirror:
         return True
 
     async def catches_up(self, device: Device) -> None:
-        """Waits until the panel has told all that a device does: it may be late."""
+        """Waits until the panel, which may be late, has told all that a device does."""
         ends = asyncio.get_running_loop().time() + ANSWER
         with contextlib.suppress(OSError):  # the server is gone
             while self.here and asyncio.get_running_loop().time() < ends and not await self.shows(device):
@@ -208,7 +212,7 @@ class Mirror:
         self.stale.pop(key, None)
 
     def drives(self, bus: int, address: int, row: Drive) -> None:
-        """Notes the direction of a locomotive, or that it was stopped."""
+        """Notes the direction of a locomotive, or a stop."""
         self.recent[bus, address].append(row)
         if row.mode == EMERGENCY_STOP:
             self.stops.stopped(bus, address)
@@ -216,7 +220,7 @@ class Mirror:
             self.ways[bus, address] = row.mode
 
     def powers(self, bus: int, row: Power) -> None:
-        """Notes that all were stopped, or that the bus has a driver."""
+        """Notes a STOP ALL, or a driver of the bus."""
         if row.text == STOP_ALL:
             self.stops.stopped_all(bus)
             self.stopped[bus] = row.stamp

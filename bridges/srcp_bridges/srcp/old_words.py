@@ -23,7 +23,7 @@ DAY = 99999, 23, 59, 59  # the most that the words of a time may be
 
 
 def fault(words: list[str], *most: int) -> str | None:
-    """Returns what is wrong with words that have to be numbers, each up to its limit."""
+    """Returns the fault of words that have to be numbers, each up to a limit; or None."""
     if len(words) != len(most):
         return SHORT if len(words) < len(most) else LONG
     is_right = all(NUMBER.fullmatch(word) and int(word) <= top for word, top in zip(words, most))
@@ -37,7 +37,7 @@ def seconds(words: list[str]) -> int:
 
 
 class Clock:
-    """The time of the layout, in seconds. It stands until it is told how fast it goes."""
+    """The time of the layout, in seconds. The clock stands until a client sets the speed."""
 
     def __init__(self) -> None:
         self.at = 0.0
@@ -62,16 +62,16 @@ class Clock:
 
 
 class Answers:
-    """Answers for all clients. An answer is a line without its stamp. `tell` is called with a line for the information
+    """Answers for all clients. An answer is a line without a stamp. `tell` is called with a line for the information
     sessions that asked for the time."""
 
     def __init__(self, asked: argparse.Namespace, tell: Callable[[str], None]):
-        self.mirror = Mirror(asked, self.told)
+        self.mirror = Mirror(asked, self.on_change)
         self.tell = tell
         self.clock = Clock()
         self.waits: set[asyncio.Queue[Change]] = set()  # the changes that come to each WAIT
 
-    def told(self, change: Change) -> None:
+    def on_change(self, change: Change) -> None:
         for changes in self.waits:
             changes.put_nowait(change)
 
@@ -86,7 +86,7 @@ class Answers:
             return refused
 
     async def describe(self, bus: int, words: list[str], programs: bool) -> str:
-        """Answers GET b DESCRIPTION; with GL or GA and an address also what that is. `programs`: decoders can be
+        """Answers GET b DESCRIPTION; with GL or GA and an address also the device's row. `programs`: decoders can be
         programmed."""
         if words:
             return fault(words[1:], 99999) or await self.describe_device(bus, words[0].upper(), int(words[1]))
@@ -101,7 +101,8 @@ class Answers:
         return " ".join([f"100 INFO {bus} DESCRIPTION", *groups, "DESCRIPTION"])
 
     async def describe_device(self, bus: int, group: str, address: int) -> str:
-        """Tells what a locomotive or an accessory is. Its row may come after the reply to the command that made it."""
+        """Tells how a locomotive or an accessory was made. The row may come after the reply to the command that made
+        the device."""
         if group not in ("GL", "GA"):
             return NO_DATA
         refused = await self.refused(f"GET {bus} {group} {address}" + " 0" * (group == "GA"))

@@ -21,8 +21,8 @@ class Code(IntEnum):
 
 
 class Reason(StrEnum):
-    """Why a program here refuses a command itself, if another part of it tells that apart; in the words that people
-    are told."""
+    """Why a program here refuses a command itself, for parts of the program that tell the reason apart; in the words
+    told to people."""
     STOPPED = "it was stopped meanwhile"
     AWAY = "the server is away"
     FULL = "the server is full"
@@ -41,8 +41,8 @@ def error(code: Code) -> str:
 
 
 class Refused(Exception):
-    """A command that is not carried out. `code` is that of the server's error reply, or the Reason of a program here;
-    None: nothing tells it apart. As a text it is what people are told, such as `414 ERROR device locked`."""
+    """A command that is not carried out. `code` is the code of the server's error reply, or the Reason of a program
+    here; None: no part tells the refusal apart. The text is for people, as `414 ERROR device locked`."""
 
     def __init__(self, code: int | Reason | None, text: str):
         super().__init__(text)
@@ -55,7 +55,7 @@ def refusal(code: Code | Reason) -> Refused:
 
 
 def outcome(refused: Refused | None) -> dict[str, object]:
-    """Returns what a page is told became of its command: the reply in words, and the code or the name of the reason."""
+    """Returns the outcome of a command for a page: the reply in words, and the code or the name of the reason."""
     if not refused:
         return {"reply": "200 OK", "code": Code.OK}
     return {"reply": str(refused), "code": refused.code.name if isinstance(refused.code, Reason) else refused.code}

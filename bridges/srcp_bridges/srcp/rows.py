@@ -59,7 +59,7 @@ LockKey = tuple[int, str, int, Literal["lock"]]
 
 
 class Change(NamedTuple):
-    """`row` None: it is gone. `stamp` None: at a moment that nobody told."""
+    """`row` None: the row is gone. `stamp` None: no one told the moment."""
     stamp: float | None
     key: Key
     row: Row | None
@@ -85,18 +85,18 @@ NOT_SRCP = (ValueError, KeyError, IndexError, TypeError)  # what reading a line 
 
 
 def is_of_driver(text: str) -> bool:
-    """Returns whether a text of POWER is one that a driver alone sets."""
+    """Returns whether a driver alone sets this text of POWER."""
     return text.startswith(OF_DRIVERS)
 
 
 def switches(power: Power) -> bool:
-    """Returns whether a row of power that is on may switch it on: not if its text alone was to be told."""
+    """Returns whether a row of power may switch the power on: not if only the text was to be told."""
     return power.text not in (STOP_ALL, ALL_STOOD, CONFIRMED) and not power.text.startswith((UNCONFIRMED, THROWN))
 
 
 def may_drive(power: Power | None) -> bool:
-    """Returns whether trains may drive after a STOP ALL, as far as the driver of a bus tells by its power. A text that
-    others set tells nothing of the track: the driver may sleep."""
+    """Returns whether trains may drive after a STOP ALL, as the driver of a bus tells by the power. A text set by
+    others does not tell of the track: the driver may sleep."""
     if not power or power.text == ALL_STOOD:
         return False
     is_told = is_of_driver(power.text) and not power.text.startswith((NO_STATION, NO_DRIVER, UNCONFIRMED))
@@ -117,14 +117,16 @@ def parse(line: str) -> tuple[Key, Row | None]:
     The part is `is`, `does`, `lock`, or the number of an accessory's port.
     """
     moment, code, _, bus, group, *words = line.split(" ")
-    stamp, row = float(moment), None
+    stamp = float(moment)
+    row = None
     part: str | int = "does" if code == "100" else "is"
     if group == "LOCK":
-        group, part = words.pop(0), "lock"
+        group = words.pop(0)
+        part = "lock"
     address = 0 if group == "POWER" else int(words.pop(0))
     if code != "102":
         if group == "GA" and part == "does":
-            part, *words = int(words[0]), *words[1:]
+            part = int(words.pop(0))
         row = row_of(group, part, stamp, words)
     return (int(bus), group, address, part), row
 
@@ -170,8 +172,9 @@ class Rows(dict[Key, Row]):
         self.put: dict[tuple[int, int], tuple[float, int]] = {}
 
     def enter(self, key: Key, row: Row, listed_again: bool = False) -> Row | None:
-        """Puts a row in; returns the one that was there."""
-        before, self[key] = self.get(key), row
+        """Puts a row in; returns the row before."""
+        before = self.get(key)
+        self[key] = row
         bus, group, address, part = key
         if group == "GA" and isinstance(part, int) and isinstance(row, Port):
             was_off = isinstance(before, Port) and not before.value
@@ -202,7 +205,7 @@ def position(rows: Rows, bus: int, address: int) -> int | None:
 
 
 def devices(keys: Iterable[Key]) -> list[Device]:
-    """Returns what can go as one, of these keys: (bus, group, address, whether it is a lock)."""
+    """Returns the devices of these keys: (bus, group, address, whether a lock)."""
     return list(dict.fromkeys((*key[:3], key[3] == "lock") for key in keys))
 
 

@@ -13,7 +13,7 @@ TEXTS = {str(code): error(code) for code in (Code.WRONG_VALUE, Code.PROHIBITED, 
 
 
 def is_open(door: str) -> bool:
-    """Returns whether a driver listens at its socket: one that was killed has left its own there."""
+    """Returns whether a driver listens at its socket: a killed driver leaves a socket without."""
     with socket.socket(socket.AF_UNIX) as trial:
         trial.setblocking(False)
         return trial.connect_ex(door) == 0
@@ -33,7 +33,7 @@ def doors(port: int, bus: int) -> list[str]:
 
 
 async def ask(door: str, request: str) -> tuple[str, str]:
-    """Has a driver carry out a request; returns the code of its reply, and the value or what is wrong."""
+    """Has a driver carry out a request; returns the code of the reply, and the value or the fault."""
     reader, writer = await asyncio.open_unix_connection(door)
     try:
         async with asyncio.timeout(CV_PATIENCE):
@@ -47,7 +47,7 @@ async def ask(door: str, request: str) -> tuple[str, str]:
 
 
 class ServiceMode:
-    """Answers the lines of one client. `begun` has the buses for which it has sent INIT."""
+    """Answers the lines of a client. `begun` has the buses for which the client has sent INIT."""
 
     def __init__(self, port: int):
         self.port = port
@@ -58,7 +58,7 @@ class ServiceMode:
         return len(doors(self.port, bus)) == 1
 
     async def answer(self, command: str, bus: int, words: list[str]) -> str | None:
-        """Returns the answer to a line; None if there is no driver, or more than one: the server then refuses it."""
+        """Returns the answer to a line; None if there is not a single driver: the server then refuses the line."""
         if len(found := doors(self.port, bus)) != 1:
             return None
         words = [word.upper() for word in words]
@@ -89,7 +89,8 @@ class ServiceMode:
             return UNSUPPORTED
         if wrong := fault(words[:1] + words[2:], *[0, 9999, 999][:2 + (command != "GET")]):
             return wrong
-        cv, value = int(words[2]), None if command == "GET" else int(words[3])
+        cv = int(words[2])
+        value = None if command == "GET" else int(words[3])
         code, told = await ask(door, f"WRITE {cv} {value}" if command == "SET" else f"READ {cv}")
         if code != "200":
             return TEXTS.get(code, NO_DATA)

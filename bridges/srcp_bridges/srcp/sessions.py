@@ -16,7 +16,7 @@ Ask = Callable[[str], Awaitable[Reply]]  # carries out a command
 
 
 class ServerIsFull(ConnectionError):
-    """The server closed a connection before it said anything, as it does with one more than it takes."""
+    """The server closed a connection without a word, as a full server does."""
 
 
 class Session(asyncio.Protocol):
@@ -24,7 +24,7 @@ class Session(asyncio.Protocol):
 
     def __init__(self, port: int):
         loop = asyncio.get_running_loop()
-        self.take: Take | None = None
+        self.on_line: Take | None = None
         self.port = port
         self.begun = b""
         self.id: int | None = None
@@ -56,9 +56,9 @@ class Session(asyncio.Protocol):
         raise ConnectionError("does not speak SRCP")
 
     async def go(self, take: Take | None = None, whose: str = "") -> "Session":
-        """Begins a command session; or that of a panel, if there is a function to `take` its lines. `whose` names whom
-        the session is for, if that is not this program."""
-        self.take = take
+        """Begins a command session; or a panel's, if there is a function to `take` the lines. `whose` names whom the
+        session is for, if not this program."""
+        self.on_line = take
         try:
             await self.ask(f"SET CONNECTIONMODE SRCP {'INFO' if take else 'COMMAND'}")
             self.id = int(str(await self.ask("GO")).removeprefix("OK GO "))
@@ -79,8 +79,8 @@ class Session(asyncio.Protocol):
             if self.waiting:
                 if not (reply := self.waiting.popleft()).done():  # it is, if whoever asked has been cancelled
                     reply.set_result(line.decode("latin-1"))
-            elif self.take:
-                self.take(line.decode("latin-1"))
+            elif self.on_line:
+                self.on_line(line.decode("latin-1"))
         if len(self.begun) > LONGEST_BEGUN:
             self.transport.abort()
 

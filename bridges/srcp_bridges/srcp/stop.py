@@ -1,7 +1,8 @@
-"""Stopping: what counts as a stop, what is refused after it, and STOP ALL, for every program that has such a button.
+"""Stopping: what counts as a stop, which commands are refused after a stop, and STOP ALL, for every program with a
+button.
 
-A STOP ALL is one fact of the registry: the text `stop all` of each bus's power. The driver of a bus has all stand as
-soon as it is told that, and says so by `all stood`. The rows of locomotives follow.
+A STOP ALL is a fact of the registry: the text `stop all` of each bus's power. The driver of a bus has all stand at this
+text, and confirms by `all stood`. The rows of locomotives follow.
 """
 import asyncio
 import contextlib
@@ -23,7 +24,7 @@ Holders = Mapping[int, "Session"]  # sessions by their ids
 
 
 class Fault(NamedTuple):
-    """What could not be stopped, by the words of a command (`1 GL 3`, `1 POWER`; none: nothing could), and why."""
+    """A stop that failed: of which device, by the words of a command (`1 GL 3`, `1 POWER`; none: of all), and why."""
     whose: str
     why: Refused
 
@@ -51,7 +52,8 @@ class Stops:
 
     def now(self) -> Callable[[int, int], int]:
         """Returns a function that counts as `count` does at this moment."""
-        every, each = self.all, self.each.copy()
+        every = self.all
+        each = self.each.copy()
         return lambda bus, address: every + each[bus, address]
 
     def refuse(self, bus: int, address: int, seen: int) -> None:
@@ -60,7 +62,7 @@ class Stops:
             raise refusal(Reason.STOPPED)
 
     def order_one(self, bus: int, address: int) -> None:
-        """Counts a stop that is ordered here: its row, which comes later, is not counted again."""
+        """Counts a stop ordered here: the row, which comes later, is not counted again."""
         self.each[bus, address] += 1
         self.due[bus, address] += 1
 
@@ -114,9 +116,10 @@ def driven(command: str) -> Locomotive | None:
 
 
 async def send(stops: Stops, session: "Session | Mirror", command: str, seen: int | None) -> Reply:
-    """Carries out a command that was made as `seen` stops of its locomotive were counted, as Session.ask.
+    """Carries out a command made as `seen` stops of the locomotive were counted, as Session.ask.
 
-    It is refused if it has a locomotive drive that was stopped since. `seen` None: as it is sent.
+    Refuses a command to drive a locomotive that was stopped since. `seen` None: stops are counted as the command is
+    sent.
     """
     if not (locomotive := driven(command)):
         return await session.ask(command)
@@ -125,8 +128,8 @@ async def send(stops: Stops, session: "Session | Mirror", command: str, seen: in
 
 
 async def halt(mirror: "Mirror", ask: "Ask", bus: int, address: int) -> None:
-    """Has a locomotive make an emergency stop, and stand in its direction: the server is asked for that just before,
-    since the stop takes it out of the row. A session's `ask` carries out the commands."""
+    """Has a locomotive make an emergency stop, and then stand in the same direction. The server is asked for the
+    direction just before, since the stop takes it out of the row. A session's `ask` carries out the commands."""
     most = (mirror.rows.get((bus, "GL", address, "does")) or Drive(0, 0, 0, 0, ())).v_max
     commands = f"GET {bus} GL {address}", f"SET {bus} GL {address} {EMERGENCY_STOP} 0 {most}"
     now, reply = await asyncio.gather(*map(ask, commands), return_exceptions=True)
@@ -151,17 +154,18 @@ async def stop_several(mirror: "Mirror", ask: "Ask", locomotives: Collection[Loc
 
 
 def faults(locomotives: Iterable[Locomotive], replies: Iterable[BaseException | None]) -> list[Fault]:
-    """Returns what could not be stopped, and why. What is gone stands."""
+    """Returns the stops that failed. A locomotive that is gone stands."""
     found = [Fault(f"{bus} GL {address}", reply if isinstance(reply, Refused) else Refused(None, str(reply)))
              for (bus, address), reply in zip(locomotives, replies) if reply]
     return [fault for fault in found if fault.why.code != Code.NO_DATA]
 
 
 async def stop_all(mirror: "Mirror", holders: Holders | None = None) -> list[Fault]:
-    """Has all stand: tells each driver so at once, and has all locomotives that drive make an emergency stop.
+    """Has all stand: tells each driver at once, and has all locomotives that drive make an emergency stop.
 
-    If another session has one locked, its bus's power goes off. `holders` has sessions by their ids: they command what
-    they have locked. Returns what could not be stopped, and which drivers have not confirmed that all stand.
+    If another session has a locomotive locked, the power of the bus goes off. `holders` has sessions by their ids,
+    which command the locomotives locked by them. Returns the stops that failed, and the drivers that have not confirmed
+    that all stand.
     """
     if holders is None:
         holders = {}
@@ -191,7 +195,7 @@ def locked(mirror: "Mirror", holders: Holders, locomotives: Iterable[Locomotive]
 
 
 async def tell_stop(mirror: "Mirror", bus: int, on: bool) -> None:
-    """Tells all who follow a bus, its driver first of all, that all are to stand."""
+    """Tells all who follow a bus, the driver first of all, that all are to stand."""
     assert mirror.session
     mirror.stops.due[bus, 0] += 1
     try:
@@ -202,14 +206,14 @@ async def tell_stop(mirror: "Mirror", bus: int, on: bool) -> None:
 
 
 async def catches_up(mirror: "Mirror") -> None:
-    """Waits until the panel has told the STOP ALL, so all that drove before it too: it may be late."""
+    """Waits until the panel, which may be late, has told the STOP ALL, and so all earlier commands to drive."""
     ends = asyncio.get_running_loop().time() + ALL_CONFIRM
     while mirror.here and mirror.stops.is_all_due() and asyncio.get_running_loop().time() < ends:
         await asyncio.sleep(SOON)
 
 
 async def unsure(mirror: "Mirror") -> list[int]:
-    """Waits until the drivers have confirmed the last STOP ALL; returns the buses of those that do not in time."""
+    """Waits until the drivers have confirmed the last STOP ALL; returns the buses of drivers that do not in time."""
     ends = asyncio.get_running_loop().time() + ALL_CONFIRM
     late = sorted(mirror.driven())
     try:
@@ -223,7 +227,7 @@ async def unsure(mirror: "Mirror") -> list[int]:
 
 
 def driving(mirror: "Mirror", all_of_them: bool = False) -> set[Locomotive]:
-    """Returns the locomotives that drive; or all, since the panel that tells which is away."""
+    """Returns the locomotives that drive; or all, while no panel tells which."""
     return {(bus, address) for (bus, _, address, _), row in mirror.rows.items()
             if isinstance(row, Drive) and (row.v or all_of_them)}
 
