@@ -8,8 +8,8 @@ function that it changes. Else it is tried alone, and then the crate has to be r
 cannot be read. An edit of laws-refuse/ changes a definition and its code together and is tried alone: the prover has to
 refuse a function of laws.rt.
 
-`rt lib` builds the libraries below a crate, over what earlier checks kept. With --of-ci they are those that `rt ci`
-proved: it gives what it has kept of exactly these sources, and proves the others from nothing.
+`rt lib` builds the libraries below a crate, over what earlier checks kept. With --of-ci they are those that the last
+`rt ci` of this tree proved, if no source has changed since. Else `rt ci` proves them once more.
 
 It works on a copy and changes nothing in the repository. RT_JOBS crates are tried beside each other (none: one). What
 passed is kept in the user's cache by the sum of all that its check read, and is not tried again; --anew tries all. It
@@ -362,13 +362,32 @@ class Proved:
                 "--logic-built", str(self.kit / "logic_built"), "--incremental", "out/incremental"]
 
 
+def changed(*places: Path) -> list[float]:
+    """Returns when each file and folder at these places and below them was changed last."""
+    return [found.stat().st_mtime for place in places for found in (place, *place.rglob("*"))]
+
+
+def is_of_ci(repository: Repository, name: str) -> bool:
+    """Tells whether the library of a crate is one that `rt ci` proved of the sources as they stand. A library that
+    `rt lib` built has a stamp."""
+    library = repository.library(name)
+    if not library.is_dir() or library.with_name("stamp").exists():
+        return False
+    crates = [repository.folder(low) for low in (*repository.below(name), name)]
+    read = [crate / part for crate in crates for part in (*PARTS, "c") if (crate / part).exists()]
+    return max(changed(TOP / "crates.txt", *read)) < min(changed(library))
+
+
 def proved_below(repository: Repository, names: list[str]) -> Proved | Fault:
-    """Has `rt ci` prove the libraries below these crates, in a copy without edits, or give what it has kept of them."""
+    """Returns the libraries below these crates as `rt ci` left them, or has `rt ci` prove them in a copy."""
     below = {dep for name in names for dep in repository.below(name)}
+    kit = Path(run(["rt", "doc"], repository.top).out.strip()).parent
+    if all(is_of_ci(repository, name) for name in below):
+        return Proved(kit, repository)
     copy = copy_of(repository, [name for name in repository.lines if name in below], repository.top / "proved")
-    if below and (ran := run(["rt", "ci"], copy.top)).status:
+    if (ran := run(["rt", "ci"], copy.top)).status:
         return Fault(f"rt ci: {(ran.out.splitlines() or [''])[-1][:200]}")
-    return Proved(Path(run(["rt", "doc"], repository.top).out.strip()).parent, copy)
+    return Proved(kit, copy)
 
 
 def build_below(repository: Repository, name: str) -> list[str] | Fault:

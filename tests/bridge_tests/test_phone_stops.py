@@ -28,6 +28,7 @@ class WiThrottleWithBeats(WiThrottleCase):
         self.assertTrue(any(row.startswith("100 INFO 1 GL 3 1 61 126") for row in rows(self.server.port)))
         self.has("100 INFO 1 GL 3 1 0 126")
         phone.send("M0A*<;>V0", "M0A*<;>V28")  # the network may have held both back
+        phone.settled()  # the bridge may read late, and counts the second from then on
         time.sleep(1)
         phone.send("M0A*<;>V29", "M0A*<;>V0", "M0A*<;>V30")
         phone.got("END")
