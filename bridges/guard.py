@@ -15,7 +15,7 @@ from srcp_bridges.srcp.stop import Locomotive
 
 
 class Guard:
-    """`freed` has, by locomotive, when it lost its lock (None: at a moment that nobody told), and whose that was."""
+    """`freed` has, by locomotive, when the lock went (None: no one told the moment), and whose lock."""
 
     def __init__(self, asked: argparse.Namespace):
         self.mirror = Mirror(asked, self.on_change)
@@ -23,7 +23,8 @@ class Guard:
         self.stops: set[asyncio.Task[None]] = set()
 
     def on_change(self, change: Change) -> None:
-        """As a session ends, its locks go at the same moment. After an overrun it is not known: in doubt it stops."""
+        """As a session ends, the session's locks go at the same moment. After an overrun the moment is not known: in
+        doubt the locomotive is stopped."""
         bus, group, address, part = change.key
         if group == "GL" and part == "lock":
             self.freed.pop((bus, address), None)

@@ -23,7 +23,7 @@ GROUPS = ["POWER", "GL", "GA"]
 
 
 def commands_of(rows: Rows, power: bool, way: Callable[[int, int], int] = lambda bus, address: FORWARD) -> list[str]:
-    """Returns the commands that make these rows again. `way` tells the direction of a locomotive that was stopped."""
+    """Returns the commands by which these rows are made again. `way` tells the direction of a stopped locomotive."""
     commands = []
     wanted = [key for key in rows if key[1] == "POWER" and power or key[1] in ("GL", "GA") and key[3] == "is"]
     for bus, group, address, part in sorted(wanted, key=lambda key: (key[0], GROUPS.index(key[1]), key[2])):
@@ -47,7 +47,7 @@ def commands_of(rows: Rows, power: bool, way: Callable[[int, int], int] = lambda
 
 
 def device_of(command: str) -> Device | None:
-    """Returns the device that a command is to, or None if it names none."""
+    """Returns the device of a command, or None if the command names none."""
     try:
         _, bus, group, *address = command.upper().split()
         return int(bus), group, 0 if group == "POWER" else int(address[0]), False
@@ -96,7 +96,8 @@ class Keeper:
             await asyncio.sleep(self.rest)
 
     async def restore(self, session: Session) -> None:
-        """Has the server make what FILE holds and it does not have, and waits until the panel has told all of it."""
+        """Has the server make the devices of FILE that it does not have, and waits until the panel has told all of
+        these."""
         self.written = self.held()
         absent: set[Device] = set()
         ordered: set[Device] = set()
@@ -126,12 +127,13 @@ class Keeper:
         return True
 
     def refused(self, command: str, why: object) -> None:
-        """Says so, and keeps FILE as it is now in FILE~, since the command will not be written again."""
+        """Says why a command is refused, and keeps the present FILE as FILE~, since the command will not be written
+        again."""
         say(f"{command}: {why}; {self.path}~ keeps it")
         shutil.copyfile(self.path, self.path + "~")
 
     async def follow(self) -> None:
-        """Writes FILE, if all that it would lose is gone from the very server that it was restored to."""
+        """Writes FILE, if each device that FILE would lose is gone from the very server to which FILE was restored."""
         if self.mirror.session is not self.session:
             return self.changed.set()
         commands = commands_of(self.mirror.rows, self.power, self.mirror.way)
@@ -151,7 +153,7 @@ class Keeper:
             return []
 
     def write(self, commands: list[str]) -> None:
-        """Puts the commands in FILE: all of them, or, if the machine fails meanwhile, those that stood there."""
+        """Puts the commands into FILE: all, or none if the machine fails meanwhile."""
         try:
             with open(self.path + ".new", "w", encoding="latin-1") as file:
                 file.writelines(command + "\n" for command in commands)

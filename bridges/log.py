@@ -20,7 +20,7 @@ KINDS = {"GL": "locomotive", "GA": "accessory"}
 
 
 def words_of(change: Change, whose: dict[int, str]) -> str:
-    """Returns in words what a change does to its device. `whose` names sessions."""
+    """Returns in words the effect of a change on the device. `whose` names sessions."""
     _, group, _, part = change.key
     row = change.row
     if not row:
@@ -40,13 +40,13 @@ def words_of(change: Change, whose: dict[int, str]) -> str:
 
 
 def named(session: int, whose: dict[int, str]) -> str:
-    """Returns what stands behind a session: whose it is, if that is known."""
+    """Returns the words behind a session: whose the session is, if known."""
     return f" ({whose[session]})" if session in whose else ""
 
 
 class Log:
-    """`since` is when the newest session began. A row that is older was listed as this program's panel began. `whose`
-    names the sessions that are there."""
+    """`since` is when the newest session began. An older row was listed as this program's panel began. `whose` names
+    the present sessions."""
 
     def __init__(self, asked: argparse.Namespace):
         self.names = names(asked.names)
@@ -62,7 +62,7 @@ class Log:
         self.write("the server is away")
 
     def on_change(self, change: Change) -> None:
-        """A device that is gone is told of once, by the row that says what it is."""
+        """A device that is gone is told once, by the row of its making."""
         bus, group, address, part = change.key
         if group == "SESSION" and change.row:
             self.since = max(self.since, change.row.stamp)
@@ -75,7 +75,7 @@ class Log:
             self.follow(address, bool(change.row))
 
     def follow(self, session: int, is_there: bool) -> None:
-        """Has the name of a session that begins looked up soon, and forgets that of one that ends."""
+        """Has the name of a new session looked up soon, and forgets the name of an ended one."""
         if is_there and session not in self.whose:
             asyncio.get_running_loop().call_later(SESSION_TOLD, self.look_up, session)
         elif not is_there:

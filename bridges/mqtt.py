@@ -69,7 +69,7 @@ class Bridge:
         self.want(f"{self.asked.home_assistant}/{topic}/config", payload, True)
 
     def want(self, topic: str, payload: str | None, once: bool) -> None:
-        """Has the broker show a payload; `once`: not again, if it shows that already."""
+        """Has the broker show a payload; `once`: not again, if the broker shows the payload."""
         if payload:
             self.wanted[topic] = payload
         else:
@@ -78,7 +78,7 @@ class Bridge:
             self.put(topic)
 
     def put(self, topic: str) -> None:
-        """Has the broker show what is wanted at a topic; an empty message takes out what is retained."""
+        """Has the broker show the wanted payload at a topic; an empty message takes out a retained payload."""
         payload = self.wanted.get(topic, "")
         self.late.discard(topic)
         if not self.following or not payload and topic not in self.there:
@@ -113,7 +113,7 @@ class Bridge:
             await asyncio.sleep(BROKER_LOOK)
 
     async def look_at(self, topic: str) -> None:
-        """Takes out what the broker shows of no row. If its device is not listed (yet), the server is asked."""
+        """Takes out payloads of no row. If the device is not listed (yet), the server is asked."""
         device = device_of(self.place(topic))
         assert device  # `found` took in no other
         if any(key in self.mirror.rows for key in keys_of(device)):
@@ -125,7 +125,7 @@ class Bridge:
                 self.there.pop(topic, None)  # another layout shows it
 
     async def owns(self, device: Device) -> bool:
-        """Returns whether the layout has such devices on that bus: it then knows the address 1."""
+        """Returns whether the layout has devices of this group on the bus: then the server knows the address 1."""
         bus, group, _, is_lock = device
         words = "POWER" if group == "POWER" else f"LOCK {group} 1" if is_lock else f"{group} 1" + " 0" * (group == "GA")
         try:
@@ -134,7 +134,7 @@ class Bridge:
             return reply.code == Code.NO_DATA
 
     def place(self, topic: str) -> str:
-        """Returns a topic without its prefix; of an announcement, the name of its device."""
+        """Returns a topic without the prefix; of an announcement, the name of the device."""
         return topic.removeprefix(self.prefix) if topic.startswith(self.prefix) else topic.split("/")[-2]
 
     def refused(self, place: str, text: str, fault: Exception | str) -> None:
@@ -162,14 +162,15 @@ class Bridge:
                 self.orders.on_message(place, text)
 
     def found(self, topic: str, text: str) -> None:
-        """Takes in what the broker has retained: what this bridge may have had it show, and another bridge's mark."""
+        """Takes in the broker's retained messages: those of this bridge, as it seems, and another bridge's mark."""
         if topic.endswith("/online") and text in ("online", "offline"):
             self.other = topic
         elif device_of(self.place(topic)):
             self.there[topic] = text
 
     async def follow(self) -> None:
-        """One connection to the broker: reads what it shows, has it show what is wanted, until it is lost."""
+        """A connection to the broker: reads the topics shown, and has the wanted payloads shown, until the connection
+        is lost."""
         joined = asyncio.Event()
         self.lost = asyncio.Event()
         self.marked = asyncio.Event()
@@ -216,7 +217,7 @@ class Bridge:
             raise ConnectionError("closed or refused the connection, or does not answer")
 
     def begin(self, client: "paho.Client") -> None:
-        """What the broker shows is known: has it show what is wanted, and takes commands from now on."""
+        """The topics shown are known: has the broker show the wanted payloads, and takes commands from now on."""
         say(f"broker: joined; it had {len(self.there)} topics")
         client.unsubscribe([topic for topic, _ in self.all_topics()])
         sets = [f"{self.prefix}{'+/' * levels}set" for levels in range(1, 7)]  # more than there are, to tell of errors

@@ -69,7 +69,8 @@ class Proxy:
 
 
 class Client:
-    """The connection of a client, and its own to the server. Its lines are carried out one after the other."""
+    """The connection of a client, and another for the client to the server. The client's lines are carried out in turn.
+    """
 
     def __init__(self, proxy: Proxy, reader: asyncio.StreamReader, writer: asyncio.StreamWriter):
         self.proxy = proxy
@@ -90,7 +91,8 @@ class Client:
         self.writer.write(f"{time.time():.3f} {text}\n".encode("latin-1"))
 
     async def read(self) -> None:
-        """Takes in the lines of the client. Of one that is too long stays what the server needs to say so."""
+        """Takes in the lines of the client. A line that is too long keeps as many bytes as the server needs for its
+        refusal."""
         begun = b""
         try:
             while more := await self.reader.read(1 << 16):
@@ -103,7 +105,7 @@ class Client:
         await self.lines.put(None)
 
     async def hear(self, upstream: asyncio.StreamReader) -> None:
-        """Passes on what the server says, and takes its replies until the lines of a panel begin."""
+        """Passes the server's lines on, and takes the replies until the lines of a panel begin."""
         try:
             while line := await upstream.readline():
                 if not self.keeps:
@@ -120,8 +122,8 @@ class Client:
             self.replies.put_nowait(b"")
 
     def as_told(self, line: bytes) -> bytes:
-        """Returns what the client is told by a line of the server. With --one-port a panel is told of each throw, and
-        by port 0 alone."""
+        """Returns the client's lines for a line of the server. With --one-port a panel is told each throw, and by port
+        0 alone."""
         is_port = self.is_panel and self.proxy.asked.one_port and PORTS.fullmatch(line)
         if not is_port:
             return line
@@ -138,7 +140,7 @@ class Client:
             self.writer.close()
 
     async def carry_out_all(self) -> None:
-        """Carries out what the client sends, until it has gone and all is answered, or the server has gone."""
+        """Carries out the client's lines, until the client has gone and all is answered, or the server has gone."""
         upstream, self.server = await asyncio.open_connection(*self.proxy.answers.mirror.server)
         self.hearing = asyncio.create_task(self.hear(upstream))
         self.reading = asyncio.create_task(self.read())
@@ -186,8 +188,8 @@ class Client:
             await self.replies.get()
 
     async def drive(self, line: bytes, words: list[str]) -> None:
-        """Has the server carry out SET or CHECK of a locomotive. Functions that it does not have are left out: the
-        server refuses also a stop that has them."""
+        """Has the server carry out SET or CHECK of a locomotive. Functions beyond the locomotive's are left out, since
+        the server refuses even a stop with too many."""
         reply = await self.ask(line)
         if reply.split()[1:2] == [b"%d" % Code.TOO_LONG]:
             row = (await self.ask(f"GET {words[1]} GL {words[3]}".encode("latin-1"))).split()
@@ -229,7 +231,7 @@ class Client:
         return await self.service_mode.answer(command, bus, words) if group == "SM" else None
 
     async def waited(self, wait: Coroutine[object, object, str]) -> str:
-        """Returns the answer of a WAIT. It does not go on for long once the client has closed its side."""
+        """Returns the answer of a WAIT, which does not go on for long once the client has closed its side."""
         task = asyncio.create_task(wait)
         try:
             await asyncio.wait([task, self.reading, self.hearing], return_when=asyncio.FIRST_COMPLETED)
@@ -240,7 +242,7 @@ class Client:
 
 
 def by_its_own_port(line: bytes, words: list[str]) -> bytes:
-    """Returns the line that throws a turnout, for one that sets port 0 to where the turnout is to lie."""
+    """Returns the line to throw a turnout, for a line that sets port 0 to where the turnout is to lie."""
     bus = words[1]
     place = words[3:]
     if len(place) != 4 or place[1] != "0" or place[2] not in ("0", "1"):

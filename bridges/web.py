@@ -68,7 +68,7 @@ def enter(entrance: Entrance, writer: asyncio.StreamWriter, request: Request, gu
 
 
 def told_of_stop(faults: list[Fault]) -> dict[str, object]:
-    """Returns what a page is told became of a STOP ALL: also what could not be stopped, thing by thing."""
+    """Returns the outcome of a STOP ALL for a page, with each device that could not be stopped."""
     of_all = [fault.why for fault in faults if not fault.whose]
     whole = of_all[0] if of_all else Refused(None, "; ".join(map(str, faults))) if faults else None
     return outcome(whole) | {"faults": [outcome(fault.why) | {"key": fault.whose} for fault in faults if fault.whose]}
@@ -94,8 +94,8 @@ class Web:
         self.asking: asyncio.Task[None] | None = None  # whether the drivers confirm the last one
 
     async def look_at_drivers(self) -> None:
-        """Tells pages what the drivers of this machine cannot drive, and why; of each bus its own driver counts. A
-        driver of before an upgrade tells why in words alone."""
+        """Tells pages which devices the drivers of this machine cannot drive, and why; the driver of a device's bus
+        counts. A driver of before an upgrade tells why in words alone."""
         while True:
             found = {name: {"why": why, **station.get("left_out_by", {}).get(name, {})}
                      for station in stations(self.asked.port) for name, why in station["left_out"].items()
@@ -115,7 +115,7 @@ class Web:
             page.tell(text)
 
     async def serve(self, reader: asyncio.StreamReader, writer: asyncio.StreamWriter) -> None:
-        """Serves a connection, if there is a place for it; one for which there is not, a stop."""
+        """Serves a connection that has a place. A connection without a place may only stop trains."""
         if not (peer := writer.get_extra_info("peername")):
             return writer.close()  # it is closed already
         guest = guest_of(peer[0])
@@ -170,7 +170,7 @@ class Web:
 
     async def stop_by_form(self, cookies: dict[str, str]) -> Answer:
         """Carries out a STOP ALL of a page whose script does not run; returns status, kind and body of the answer. The
-        cookie is of that page: a browser sends it with no form of another site."""
+        cookie is the page's: a browser sends this cookie with no form of another site."""
         if "srcp_browser" not in cookies:
             return 404, TEXT, "no such page\n"
         faults = await self.stop_all()
@@ -212,7 +212,7 @@ class Web:
         return await stopping
 
     def tell_stop(self) -> None:
-        """Tells pages of a STOP ALL once it is counted, whoever asked for it; and then whether all have stood."""
+        """Tells pages of a counted STOP ALL, by whoever; and then whether all have stood."""
         count = self.mirror.stops.count
         if self.stops_told != self.mirror.stops.all:
             self.stops_told = self.mirror.stops.all
@@ -251,7 +251,7 @@ class Web:
         return False
 
     async def follow(self, page: Page, reader: asyncio.StreamReader, writer: asyncio.StreamWriter) -> str:
-        """Sends a page each change until it goes; returns why it went."""
+        """Sends a page each change until the page goes; returns why it went."""
         loop = asyncio.get_running_loop()
         gone = asyncio.create_task(reader.read(1))
         beat = loop.time()

@@ -8,11 +8,11 @@ from pathlib import Path
 
 from serving import SECONDS, WELCOME, Client, comes_again, placed, rows_of, served
 
-REPLIES = 200_000
-ROWS = 6_000
+REPLIES = 200_000  # more than the systems on the way hold
+ROWS = 6_000  # locomotives: a listing of more bytes than the sockets hold
 SESSIONS = 32
 PANELS = 8
-LEAVERS = 100
+LEAVERS = 100  # sessions that end: more than may linger at once
 RESET = b"\1\0\0\0\0\0\0\0"
 
 

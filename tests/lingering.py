@@ -17,18 +17,18 @@ QUESTION = b"GET 1 POWER\n"
 ANSWER = b" 100 INFO 1 POWER OFF\n"
 # The welcome line, the replies to the two lines of the handshake, and one to TERM.
 BESIDE = 4
-READERS = 12
-TURNED_AWAY = 71
-SENDERS = 64
-SENDING_PROCESSES = 16
-PULSES = 1000
-BETWEEN_PULSES = 4
-ASKED = 100
-LONGEST_REPLY = 0.1
-LONGEST_ASKING = 0.8
-LONGEST_WELCOME = 2
-ROWS = 10_000
-CHANGES = 500
+READERS = 12  # sessions that end, and read late
+TURNED_AWAY = 71  # more than may linger at once, so the door has to give some up
+SENDERS = 64  # as many as may linger at once
+SENDING_PROCESSES = 16  # with four of these clients each
+PULSES = 1000  # ports, each set for a time
+BETWEEN_PULSES = 4  # milliseconds between the falls of two ports, so that a moment comes all the time
+ASKED = 100  # commands of the session that is to be answered soon
+LONGEST_REPLY = 0.1  # seconds, for each of these but the slowest: the machine may be busy for once
+LONGEST_ASKING = 0.8  # seconds for all of these
+LONGEST_WELCOME = 2  # seconds until a new client is greeted
+ROWS = 10_000  # locomotives: a listing of more bytes than the sockets hold
+CHANGES = 500  # sent at once: more than may wait for a panel
 
 
 @contextmanager

@@ -11,23 +11,23 @@ from door import changes_without_end, pipelines, reads_to_the_end
 from serving import Client, mirrored, rows_of, served
 
 PANELS = 8
-SECONDS_OF_LOAD = 3
-QUIET_BESIDE = 20
-LONGEST_REPLY = 2
-LOCKS = 150
-ENDS = 10
+SECONDS_OF_LOAD = 3  # for which sessions send without end
+QUIET_BESIDE = 20  # sessions that send without end beside the quiet one
+LONGEST_REPLY = 2  # seconds
+LOCKS = 150  # whose session's end brings 151 changes, the most for which slack is kept
+ENDS = 10  # of such sessions, in turn
 SETS = 1_000_000
-IN_ONE_GO = 20_000
-LONGEST_GO = 4
-ROWS = 1_000
-LONGEST_END = 4
-CLOSED = 1
+IN_ONE_GO = 20_000  # commands: with a wait of 8 ms a piece these take 8 s
+LONGEST_GO = 4  # seconds
+ROWS = 1_000  # locomotives of a listing
+LONGEST_END = 4  # seconds until the listing and its end have come
+CLOSED = 1  # the status of a panel that the server has closed
 # A share is 19 lines of 13 bytes. Five shares weigh one less than the lines of a turn, so the sixth is cut.
 # How many sessions send without end, and for how long what each is answered is counted.
 SENDERS = (2, 6, 32, 63)
 SETS_AT_ONCE = 1_000
 SECONDS_OF_SHARES = 2
-MOST_AHEAD = 1.5
+MOST_AHEAD = 1.5  # times as many answers as the session with the fewest
 
 
 @contextmanager

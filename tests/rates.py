@@ -18,22 +18,22 @@ GONE = "416 ERROR no data"
 TOO_FEW = 300
 # The same on a machine that wakes nobody as often as WAKES times a second: the server lets less through there.
 TOO_FEW_IF_BUSY = 30
-WAKES = 600
-SECONDS_OF_LOAD = 5
-LONGEST_UNTIL_CLOSED = 15
+WAKES = 600  # a second
+SECONDS_OF_LOAD = 5  # for which a panel that reads fast enough is kept
+LONGEST_UNTIL_CLOSED = 15  # seconds
 # For how many milliseconds a panel is kept at least whose socket takes nothing more.
 KEPT = 150
-CHANGES_BY_HAND = 60
-LATE_ACKNOWLEDGEMENT = 0.04
+CHANGES_BY_HAND = 60  # each sent a few milliseconds after the last one has come
+LATE_ACKNOWLEDGEMENT = 0.04  # seconds by which Linux puts an acknowledgement off
 PANELS = 8
-MOST_CHANGES = 40_000
-LOCOMOTIVES = 10_239
-MAKERS = 32
-STOPS = 9
-SILENCE = 0.1
-LONGEST_WAIT = 0.05
-PORTS = 149
-FALLS = 10
+MOST_CHANGES = 40_000  # more than the systems hold for a panel that reads nothing
+LOCOMOTIVES = 10_239  # of a bus at most: a long listing
+MAKERS = 32  # sessions that make and remove an accessory of 8 ports without end
+STOPS = 9  # an odd number, for the one in the middle
+SILENCE = 0.1  # seconds before each stop
+LONGEST_WAIT = 0.05  # seconds, for half of the stops
+PORTS = 149  # the most that may fall at a moment beside sessions that send without end
+FALLS = 10  # such moments
 # How many ports fall back in a millisecond, and for how many: as many as a panel can take, but not all within 10.
 FALLS_A_MILLISECOND = 30
 MILLISECONDS = 20

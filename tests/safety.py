@@ -8,7 +8,7 @@ from serving import SECONDS, Client, free_port, layout_bus, served
 
 SENSORS = b" 100 INFO 1 FB 8 0\n"
 CHANGES = 10_000
-LOCKS = 256
+LOCKS = 256  # with its own row a session has one change more than may wait for a panel
 CLUB = ("port = {port}\n" + layout_bus(3, "GL FB", gl_max=99, fb_ports=13)
         + layout_bus(250, "POWER GA", ga_max=2044, ga_ports=5))
 

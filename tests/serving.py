@@ -14,7 +14,7 @@ from pathlib import Path
 
 
 def layout_bus(number: int, groups: str, **most: int) -> str:
-    """Returns a bus of a layout: its groups, one word each, and the numbers of its keys."""
+    """Returns a bus of a layout: the groups, a word each, and the numbers of the keys."""
     words = ", ".join(f'"{group}"' for group in groups.split())
     keys = "".join(f"{key} = {value}\n" for key, value in most.items())
     return f"[[bus]]\nnumber = {number}\ngroups = [{words}]\n{keys}"
@@ -54,7 +54,7 @@ def free_port():
 
 
 class Client:
-    """A connection to a server, with the lines that came of it."""
+    """A connection to a server, with the lines received."""
 
     def __init__(self, port, mode="COMMAND", receives=None, seconds=SECONDS):
         """Stays in the handshake if the mode is None. `receives` is how many unread bytes the socket is to keep, if the
@@ -80,7 +80,7 @@ class Client:
         return line + b"\n"
 
     def asks(self, *commands):
-        """Sends each command and waits for its reply; answers the last one without its stamp."""
+        """Sends each command and waits for the reply; returns the last reply without the stamp."""
         for command in commands:
             self.socket.sendall(command.encode("latin-1") + b"\n")
             reply = self.line()
@@ -99,7 +99,7 @@ class Client:
         return b"".join(pieces)
 
     def hears_until(self, end):
-        """Takes lines up to one that ends so, and answers all that were taken."""
+        """Takes lines up to a line with this end, and returns all taken lines."""
         while not (self.lines and self.lines[-1].endswith(end)):
             self.lines.append(self.line())
         return b"".join(self.lines)
@@ -109,7 +109,7 @@ class Client:
 
 
 def comes_again(come):
-    """Returns what `come` does once it finds a place: the server may not have let go yet of one that was closed."""
+    """Returns the result of `come` once there is a place: the server may not have let a closed connection go yet."""
     end = time.monotonic() + SECONDS
     while True:
         try:
@@ -132,8 +132,8 @@ def clients_at_all_places(port):
 
 @contextmanager
 def served(program, *words, prepare=None, layout=LAYOUT):
-    """A server of a layout at a free port, ended at the end by its process id. Its process does `prepare` before it
-    runs the program."""
+    """A server of a layout at a free port, ended at the end by the process id. The process does `prepare` before the
+    program runs."""
     port = free_port()
     with tempfile.NamedTemporaryFile("w", suffix=".toml") as config:
         config.write(layout.format(port=port))
@@ -160,7 +160,7 @@ def wait_for(port, server):
 
 
 def run_unread(*words, seconds=SECONDS):
-    """Runs a program of Python, and nobody reads what it prints. Returns its status, and what it says besides."""
+    """Runs a program of Python without a reader of its output. Returns the status, and the errors printed."""
     reading, writing = os.pipe()
     os.close(reading)
     command = [sys.executable, *map(str, words)]
@@ -179,7 +179,7 @@ def rows_of(lines):
 
 
 def panels_hold_the_registry(program):
-    """Two panels of which one came late hold what a fresh panel is listed."""
+    """Two panels, the second of which came late, hold the rows that a fresh panel is listed."""
     with served(program) as (port, _):
         throttle = Client(port, "COMMAND")
         early = Client(port, "INFO")
@@ -210,9 +210,9 @@ def peer_65_is_turned_away(program):
 
 
 def peers_that_harm_nobody(program):
-    """One resets, one sends garbage, one never reads: a throttle is answered all the same, and is told of nothing. The
-    one that never reads overruns: it finds whole lines, then the end, before which the last line may be cut. It fails
-    for a door that lets no line through while a panel is behind."""
+    """A peer resets, another sends garbage, a third never reads: a throttle is answered all the same, and is told of
+    none. The third overruns: whole lines come, then the end, before which the last line may be cut. It fails for a door
+    that lets no line through while a panel is behind."""
     with served(program) as (port, server):
         throttle = Client(port, "COMMAND")
         silent = Client(port, "INFO", receives=4096)
@@ -237,7 +237,7 @@ def peers_that_harm_nobody(program):
 
 def panel_that_overruns_though_it_reads(program):
     """The end of a session with 255 locks is 256 changes, of which a panel is told all. With one lock more the panel is
-    closed, and it comes back by connecting again."""
+    closed, and comes back by connecting again."""
     with served(program) as (port, _):
         throttle = Client(port, "COMMAND")
         throttle.asks_many([f"INIT 1 GL {address} N 1 28 0" for address in range(1, 257)])
@@ -277,8 +277,8 @@ def limit_memory(server, more):
 
 
 def memory_that_runs_out(program):
-    """The locomotive that there is no memory for is refused and changes nothing; with memory it can be made. Meanwhile
-    a port falls back in time, and a session that ends itself is let go."""
+    """A locomotive without memory is refused and changes no row; with memory the locomotive can be made. Meanwhile a
+    port falls back in time, and a session that ends itself is let go."""
     with served(program) as (port, server):
         throttle = Client(port, "COMMAND")
         leaver = Client(port, "COMMAND")

@@ -13,14 +13,14 @@ MAKERS = (7, 16)
 # panel takes at once lets each session of a part of the round have a share more: over so long that matters little.
 LINES_A_SECOND = 1_200
 SECONDS = 6.0
-WARMING = 1.0
-BETWEEN_STOPS = 0.05
+WARMING = 1.0  # seconds that do not count
+BETWEEN_STOPS = 0.05  # seconds
 # A stop waits for two services of each other session at most, one a millisecond, and longer on a busy machine.
-LONGEST_STOP = 0.5
+LONGEST_STOP = 0.5  # seconds, for nine of ten stops
 # How often each session is answered at least, so that the least and the most can be compared.
 LEAST = 10
-MOST_AHEAD = 1.5
-LONGEST_LOGIN = 2.0
+MOST_AHEAD = 1.5  # times as many answers as the session with the fewest
+LONGEST_LOGIN = 2.0  # seconds until a new session is greeted
 SETS = b"SET 1 FB 7 1\n" * 500
 INITS = b"INIT 1 GA 5 N 1\nINIT 1 GA 5 M 1\n" * 250
 STOP = "SET 1 GL 3 2 0 0"

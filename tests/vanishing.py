@@ -10,15 +10,15 @@ from faults import Filter
 from pacing import running, send_all, sending_without_end, shut
 from serving import SECONDS, Client, TriedNothing, served
 
-PANELS = 62
-ROUNDS = 20
-COMMANDS = 500
+PANELS = 62  # with a throttle nearly all places
+ROUNDS = 20  # in which changes are sent
+COMMANDS = 500  # sent at once
 # What the system may hold for a socket: twice what the server asks for.
 MOST_HELD = 2 * 131_072
-SMALL = 4096
-ATTACH_FILTER = 26
-LOST_SECONDS = 30
-LINGER_SECONDS = 10
+SMALL = 4096  # bytes that the client's own system holds, so that the server's has to
+ATTACH_FILTER = 26  # SO_ATTACH_FILTER of Linux
+LOST_SECONDS = 30  # after which a peer is lost that answers or takes nothing
+LINGER_SECONDS = 10  # for which a closed peer is kept
 # How many seconds after its close a panel reads that is in time, and how many one that is late.
 IN_TIME = LINGER_SECONDS - 3
 LATE = LINGER_SECONDS + 2
@@ -28,7 +28,7 @@ ON_ITS_WAY = 400_000
 CHANGES_ON_ITS_WAY = 10_000
 # More than so many bytes its own system comes to hold for a panel that reads fast beside some sessions.
 GROWN = 1_000_000
-SENDERS = 8
+SENDERS = 8  # sessions that send without end
 # A session that reads so many bytes a second through so small a window, of so many replies.
 READ_A_SECOND = 35_000
 WINDOW = 16_384

@@ -36,10 +36,12 @@ from bridge_costs import bridges
 from door import changes_without_end, reads_to_the_end
 from serving import LAYOUT, Client, served
 
+GONE = "416 ERROR no data"  # of a session that has ended
+
 # ---- serve
 
 IDLE_SECONDS = 5
-COMMANDS = 64_000
+COMMANDS = 64_000  # of all sessions together
 
 
 def idle_server(program: str, locomotives: int) -> None:
@@ -135,7 +137,7 @@ def serve(program: str) -> None:
 
 # ---- latency
 
-SECONDS_AT_MOST = 60
+SECONDS_AT_MOST = 60  # until the panel is closed
 
 
 def waits_beside(port: int, panel: Client) -> tuple[dict[str, list[float]], float]:
@@ -149,7 +151,7 @@ def waits_beside(port: int, panel: Client) -> tuple[dict[str, list[float]], floa
             sent = time.monotonic()
             reply = lone.asks(command)
             waits[name].append(time.monotonic() - sent)
-            if reply.startswith("416") and not closed:
+            if reply == GONE and not closed:
                 closed = sent - begun
         assert sent < begun + SECONDS_AT_MOST, "the panel is not closed"
     return waits, closed
@@ -194,10 +196,9 @@ def latency(program: str, seconds: int = 60) -> None:
 
 # ---- stalls
 
-PULSES = 200
+PULSES = 200  # over which the cost of one is averaged
 FEW = (20, 5)
 MANY = (2_044, 2_000)
-GONE = "416 ERROR no data"
 
 
 def pulse_seconds(program: str, accessories: int, locks: int) -> float:
@@ -262,7 +263,7 @@ def stalls(program: str, locks: int = 5_000) -> None:
 
 # ---- mirror
 
-LIMIT = 16_777_216
+LIMIT = 16_777_216  # bytes of an input
 
 
 def folded(program: str, told: str, given: Iterable[bytes]) -> None:

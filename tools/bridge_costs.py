@@ -14,11 +14,11 @@ from bridge_tests.common import Process, until
 from evening import Evening
 from loads import TICKS
 
-TIMES = 200
-IDLE = 20
+TIMES = 200  # that each latency is measured
+IDLE = 20  # seconds without a change
 SEED = 40
 SUBSCRIBERS = 200
-CHANGES = 5000
+CHANGES = 5000  # of which each subscriber is told
 ROUNDS = 100
 TRAINS = (50, 99)
 DRIVERS = 4

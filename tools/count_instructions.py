@@ -22,7 +22,7 @@ from loads import COMMAND, LONG_RUN, drain, pipelined, replays, script_of_a_long
 from serving import Client, served
 
 PANELS = 31
-SECONDS_WITHOUT_A_LINE = 30
+SECONDS_WITHOUT_A_LINE = 30  # callgrind makes the server many times slower
 CALLGRIND = ["valgrind", "--tool=callgrind", "--callgrind-out-file=/dev/null"]
 LAST_ROW = b" 1 FB 8 0\n"
 SEED = 1

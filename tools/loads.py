@@ -17,14 +17,14 @@ sys.path.insert(0, str(Path(__file__).resolve().parent.parent / "tests"))
 
 Replay = tuple[list[str], Path, Path]  # the words that replay a script, the script, and what is printed of it
 TICKS = os.sysconf("SC_CLK_TCK")
-UNANSWERED = 2048
+UNANSWERED = 2048  # bytes: eight pieces, so that the server always has input
 COMMAND = b"SET 1 GL 3 1 5 28" + b" 0 1" * 9 + b"\n"
-LOCOMOTIVES = 10_239
-ACCESSORIES = 2_044
+LOCOMOTIVES = 10_239  # of a full bus
+ACCESSORIES = 2_044  # of a full bus
 FULL_BUS = b'[[bus]]\nnumber = 1\ngroups = ["GL", "GA"]\ngl_max = 10239\nga_max = 2044\n'
-MOMENTS = 100
-LINES = 500_000
-SCRIPT_BYTES = 16_000_000
+MOMENTS = 100  # at which a port falls back
+LINES = 500_000  # for `mirror`: close below the limit of an input
+SCRIPT_BYTES = 16_000_000  # below the limit of an input
 LONG_RUN = b"""[[bus]]
 number = 1
 groups = ["POWER", "GL", "GA", "FB"]

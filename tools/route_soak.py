@@ -12,6 +12,7 @@ from typing import Any
 
 from bridge_tests import common
 from bridge_tests.common import until
+from srcp_bridges.srcp.replies import Code
 from srcp_bridges.srcp.rows import Lock, Port, parse
 
 Accessory = tuple[int, int]  # bus and address
@@ -22,8 +23,8 @@ DEVICES = [(bus, address) for bus in BUSES for address in range(1, 6)]  # turnou
 SIGNALS = [(bus, address) for bus in BUSES for address in (11, 12)]
 LAYOUT = "port = {port}\n" + "".join(
     f'[[bus]]\nnumber = {bus}\ngroups = ["GA", "FB"]\nga_max = 12\nfb_ports = 12\n' for bus in (*BUSES, OWN))
-PACE = 0.005
-TROUBLE = 6.0
+PACE = 0.005  # seconds between two commands of a throttle
+TROUBLE = 6.0  # seconds between two troubles
 THROTTLES = 3
 READY = f"none of {ROUTES} routes is set"
 # At three turnouts a second the throttles give nearly each route back before the box sets the route.
@@ -180,7 +181,7 @@ class Soak:
                 self.watch.throttles.add(throttle.session)
                 while self.running:
                     reply = throttle.ask(self.command(draw))
-                    self.watch.count["throws that were refused"] += reply.startswith("414")
+                    self.watch.count["throws that were refused"] += reply.startswith(f"{Code.LOCKED:d} ")
                     time.sleep(PACE)
 
     def command(self, draw: random.Random) -> str:

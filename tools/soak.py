@@ -39,7 +39,7 @@ from pacing import panels_closed_by_pauses, running, send_all, shut
 from route_soak import Soak
 from serving import Client, served
 
-EVENTS_A_SCRIPT = 250_000
+EVENTS_A_SCRIPT = 250_000  # at most: a script has to stay below the limit of an input
 PANELS = 31
 SETS = 1_000_000
 RESTED = 120  # seconds until all say the same

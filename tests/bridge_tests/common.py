@@ -1,4 +1,4 @@
-"""What the cases of bridges/ share: a server, the programs, a way between that can be cut, waiting for what comes."""
+"""For all cases of bridges/: a server, the programs, a way between that can be cut, and waits."""
 import contextlib
 import functools
 import itertools
@@ -34,8 +34,8 @@ sys.path.append(PACKAGES)
 
 @functools.cache
 def block():
-    """The numbers of 1,000 ports that no other run on this machine has, below those that the system gives to
-    connections. The run holds a name of the system for them until it ends."""
+    """The numbers of 1,000 ports that no other run on this machine has, below the ports that the system gives to
+    connections. The run holds a name of the system for these ports until the run ends."""
     held = socket.socket(socket.AF_UNIX)
     for first in itertools.cycle(range(10000, 30000, 1000)):
         try:
@@ -46,8 +46,8 @@ def block():
 
 
 def free_port():
-    """A port at which nobody listens, and that no other test is given. It is bound and not listened at: a program that
-    another test is starting has the socket too for a moment, and a server that comes to the port would be refused."""
+    """A port without a listener, given to no other test. The port is bound and not listened at: a program that another
+    test is starting has the socket too for a moment, and a server that comes to the port would be refused."""
     with choosing:
         for port in block()[1]:
             try:
@@ -60,7 +60,7 @@ def free_port():
 
 
 def listener():
-    """A socket that listens at a free port; if another process has taken it meanwhile, at the next."""
+    """A socket that listens at a free port, or at the next if another process has taken the first meanwhile."""
     while True:
         try:
             return socket.create_server(("127.0.0.1", free_port()))
@@ -90,7 +90,7 @@ def connects(port):
 
 
 def until(true, what, seconds=WAIT):
-    """Waits until that is true. What it looks up may not be there yet."""
+    """Waits until the condition is true, also if it looks up a value that is not there yet."""
     end = time.monotonic() + seconds
     while True:
         with contextlib.suppress(LookupError):
@@ -102,7 +102,7 @@ def until(true, what, seconds=WAIT):
 
 
 class Process:
-    """A program that was started here, and is ended by its id."""
+    """A program started here, and ended by its id."""
 
     def __init__(self, *words, **more):
         self.log = os.path.join(new_folder(), "log")
@@ -126,7 +126,7 @@ class Process:
 
 @functools.cache
 def interpreter(name):
-    """The python3 that runs a program: the one of these tests, or, if that has no paho, Debian's."""
+    """The python3 that runs a program: the python3 of these tests, or, if this has no paho, Debian's."""
     if name != "mqtt.py":
         return sys.executable
     needs = "import sys, paho.mqtt.client; sys.exit(sys.version_info < (3, 11))"
@@ -179,7 +179,7 @@ class Session(Client):
 
 
 def sessions(port, count):
-    """So many sessions, each as soon as there is a place for it."""
+    """Opens sessions, each as soon as there is a place."""
     return [comes_again(lambda: Session(port)) for _ in range(count)]
 
 
@@ -200,7 +200,7 @@ def rows(port):
 
 
 def position_of(port, bus, number):
-    """How an accessory lies, as one sees that comes now."""
+    """How an accessory lies, for a panel that comes now."""
     from srcp_bridges.srcp.rows import Rows, parse, position
     found = Rows()
     for line in stamped_lines(port):
@@ -219,8 +219,8 @@ class Way:
     """A way to the server that loses panels as an overrun does.
 
     `cut` closes them in the middle of a line and holds new ones back until `free`. Command sessions are passed on as
-    they are. `listed`: that number of bytes of a listing passes, and half a second later it is cut. `late`: what a
-    panel is sent from this text on passes only after `free`. `shut` holds new connections back until `free`.
+    they are. `listed`: this number of bytes of a listing passes, and half a second later the panel is cut. `late`: a
+    panel's lines from this text on pass only after `free`. `shut` holds new connections back until `free`.
     """
 
     def __init__(self, server):
@@ -314,7 +314,7 @@ class Way:
 
 
 def is_full(port):
-    """Returns whether the server turns away who comes. One that it lets in has left its place at the end."""
+    """Returns whether the server turns a new client away. A client that was let in has left at the end."""
     with socket.create_connection(("127.0.0.1", port), WAIT) as one:
         if not one.recv(1):
             return True
@@ -325,7 +325,7 @@ def is_full(port):
 
 
 class Case(unittest.TestCase):
-    """A test with a server of its own, a throttle at it, and a way between the server and the program."""
+    """A test with a server, a throttle, and a way between the server and the program."""
     program = None  # the name that its cases have
     layout = LAYOUT
 
@@ -342,7 +342,7 @@ class Case(unittest.TestCase):
         return started
 
     def has(self, *wanted):
-        """Waits until the server has rows that begin so."""
+        """Waits until the server has rows with these beginnings."""
         for begin in wanted:
             until(lambda: any(row.startswith(begin) for row in rows(self.server.port)), begin)
 
@@ -355,8 +355,8 @@ class Case(unittest.TestCase):
         self.throttle = Session(self.server.port)
 
     def overruns(self, started, *commands):
-        """Has a program sleep until the server has closed its panel, and then go on; the last commands come while it
-        sleeps. What comes before fills all that the system keeps for a panel that does not read."""
+        """Has a program sleep until the server has closed the program's panel, and then go on; the last commands come
+        during the sleep. Earlier commands fill all that the system keeps for a panel that does not read."""
         def panels():
             return sum(" SESSION " in row and row.endswith(" INFO") for row in rows(self.server.port))
 

@@ -58,7 +58,7 @@ class StationCase(Case):
         self.lacks("100 INFO 1 POWER ON", "100 INFO 1 POWER OFF no station", "100 INFO 1 GL 3 1 14")
 
     def joins_again(self):
-        """Has the driver lose its panel, and waits until it has taken in a new listing: what changes later comes
+        """Has the driver lose its panel, and waits until the driver has taken in a new listing: later changes come
         behind."""
         joined = self.driver.told().count("server: joined")
         self.way.cut(), self.way.free()
@@ -66,7 +66,7 @@ class StationCase(Case):
         self.goes_on()
 
     def goes_on(self):
-        """Has the driver tell the station something, behind all that it has told."""
+        """Has the driver throw a turnout, behind all other commands."""
         lies = 1 - self.station.turnouts.get(99, 0)
         self.throttle.ask("INIT 1 GA 99 N")
         self.throttle.order(f"SET 1 GA 99 {lies} 1 -1")
@@ -101,7 +101,7 @@ class StationCase(Case):
         self.driver.end(signal.SIGKILL)
 
     def rests(self, *whys):
-        """What was lost is told, and nothing starts by itself: power stays off, and locomotive 3 stands."""
+        """The loss is told, and nothing starts by itself: power stays off, and locomotive 3 stands."""
         power = {f"100 INFO 1 POWER OFF {why}".rstrip() for why in whys}
         until(lambda: power & set(rows(self.server.port)), power)
         self.has(STANDS)
@@ -227,7 +227,8 @@ class Losses(StationCase):
         self.track(lambda s: s.cabs[3] == (0, 1) and s.power == 0, "no server: it stands after a while")
 
     def test_a_panel_that_is_lost_while_the_server_is_full(self):
-        """The driver has kept a place for that: it goes on, and all drive on, though another took the panel's place."""
+        """The driver has kept a place for this: the driver goes on, and all drive on, though another took the panel's
+        place."""
         self.restarts("--patience", WAIT)
         others = sessions(self.server.port, 60)
         until(lambda: is_full(self.server.port), "a throttle, the driver's three connections and 60 others are there")
@@ -326,7 +327,8 @@ class Hands(StationCase):
             self.track(lambda s: self.commands("t", begun) == told, told)
 
     def test_what_a_hand_drives_is_made_drives_on_and_is_stopped_with_all(self):
-        """If the registry does not have it. It is made once, and the station is told nothing of it until the stop."""
+        """A locomotive that the registry does not have is made once, and the station is told nothing of it until the
+        stop."""
         self.station.loses, web = 0, free_port()
         self.starts("web.py", "--web", web)
         until(lambda: connects(web), "the page is there")
@@ -349,8 +351,8 @@ class Hands(StationCase):
         self.assertEqual((told.count(b" 101 INFO 1 GL 77 "), told.count(b" 100 INFO 1 GL 77 2 0 126 ")), (1, 1))
 
     def test_what_a_hand_drives_and_the_server_does_not_make(self):
-        """An address above gl_max is told of once. One that is there with another protocol is left as it is, and
-        told to stand if somebody makes it as one that the station drives."""
+        """An address above gl_max is told once. A locomotive of another protocol is left unchanged, and told to stand
+        if somebody makes it anew as one that the station drives."""
         self.station.loses = 0
         self.throttle.order("INIT 1 GL 77 M 1 28 5")
         for speed in (40, 41):

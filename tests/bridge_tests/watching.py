@@ -1,7 +1,7 @@
 """What moves at a station, held against what was commanded, stopped and lost: an observer beside a simulated station.
 
-It knows no driver and no registry. Who commands, stops or takes something away notes that just before, and the
-station notes the moment of all that moves. All moments are those of `time.monotonic`.
+It knows no driver and no registry. Who commands, stops or takes something away notes that just before, and the station
+notes the moment of all that moves. All moments are those of `time.monotonic`.
 """
 import time
 from bisect import bisect_right
@@ -23,8 +23,8 @@ Clock = Callable[[], float]
 
 @dataclass
 class Command:
-    """A command to a locomotive. Until it is `done` it may be carried out at any moment; until `surely`, if no stop of
-    all and no loss came between."""
+    """A command to a locomotive, which may be carried out at any moment until `done`; until `surely`, if no stop of all
+    and no loss came between."""
     sent: float
     done: float = inf
     surely: float = inf
@@ -39,7 +39,7 @@ class Loss:
 
 @dataclass
 class Check:
-    """At a moment all stand that nobody has commanded since another."""
+    """At a moment all locomotives stand without a command since another moment."""
     moment: float
     since: float
     what: str
@@ -99,13 +99,13 @@ class Watch:
         self.stood[cab].remove(command)
 
     def loses(self, what: str) -> Loss:
-        """Something is about to be lost: all that was commanded before is over."""
+        """A loss is about to come: all earlier commands are over."""
         self.losses.append(loss := Loss(what, self.clock()))
         self.count["losses"] += 1
         return loss
 
     def found(self, loss: Loss, within: float) -> None:
-        """What was lost is back. Some seconds later nothing moves by a command of before."""
+        """A loss is over. Some seconds later nothing moves by a command of before."""
         loss.end = self.clock()
         self.checks.append(Check(loss.end + within, loss.begin, f"after a loss ({loss.what})"))
 
@@ -116,8 +116,8 @@ class Watch:
         return stop
 
     def stopped(self, stop: Command, is_heard=True, within=STANDS, has_reply=True) -> None:
-        """The reply to a STOP ALL has come; or it has none, and is carried out within QUEUED seconds. If the station
-        hears it, all stand within so many seconds of the reply."""
+        """The reply to a STOP ALL has come; or the STOP ALL has none, and is carried out within QUEUED seconds. If the
+        station hears the STOP ALL, all stand `within` seconds of the reply."""
         stop.done = self.clock() + (0 if has_reply else QUEUED)
         stop.surely = stop.done if has_reply else inf
         if is_heard:
@@ -127,7 +127,7 @@ class Watch:
     # ---- what is seen
 
     def look(self, moves: list[tuple[float, int, int]]) -> None:
-        """Judges what the station noted since the last look, and each check that is two seconds old."""
+        """Judges the station's notes since the last look, and each check that is two seconds old."""
         new, self.seen = moves[self.seen:], len(moves)
         before = {cab: moved[-1][1] for cab, moved in self.moved.items()}
         for moment, cab, speed in new:

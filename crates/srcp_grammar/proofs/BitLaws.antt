@@ -1,4 +1,4 @@
--- Functions that are read one by one.
+-- Functions, read word by word.
 use Rattle.std.specs.Prelude.{◌≡◌, ◌+◌, ◌≤◌, ℕ, Bool, List, ◌++◌, Result, Ok, length}
 use Rattle.srcp_info.specs.declared.change.Code.{Code}
 use Rattle.srcp_info.specs.Limits.{most_functions}

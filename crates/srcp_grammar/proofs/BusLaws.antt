@@ -1,4 +1,4 @@
--- A layout with one more bus: its place, and that it is a layout again.
+-- A layout with a further bus: the place of the bus, and a layout again.
 use Rattle.std.specs.Prelude.{◌≡◌, ℕ, ◌<◌, ◌≤◌, Bool, true, false, ◌||◌, ◌==◌, nat_lt, List, [], ◌∷◌, ◌++◌, length, map, filter, find}
 use Rattle.std.specs.Prelude.{insert, is_some, cond, slice_index_or, Option, Some}
 use Rattle.std.proofs.Common.{refl, sym, ◌∙◌, true≢false, arith}

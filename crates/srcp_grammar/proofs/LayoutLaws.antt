@@ -1,4 +1,4 @@
--- A key of a layout is a key that can be told.
+-- A key of a layout has a line.
 use Rattle.std.specs.Prelude.{◌≡◌, ℕ, zero, suc, ◌+◌, ◌<◌, ◌≤◌, Bool, true, false, ◌&&◌, ◌==◌, List, [], ◌∷◌, Option}
 use Rattle.std.proofs.Common.{refl, arith, eqb-true}
 use Rattle.std.specs.Option.{option_map_or}

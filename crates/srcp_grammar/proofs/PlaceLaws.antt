@@ -1,4 +1,4 @@
--- Places in a list: what stands before one and what from it on.
+-- Places in a list: the items before a place, and the items from the place on.
 use Rattle.std.specs.Prelude.{◌≡◌, ℕ, zero, suc, ◌≤◌, ◌<◌, Bool, true, false, List, [], ◌∷◌, ◌++◌, length, take, drop, filter, find}
 use Rattle.std.specs.Prelude.{slice_get, slice_index_or, not}
 use Rattle.std.proofs.Common.{sym, ap, ◌∙◌, arith}

@@ -1,4 +1,4 @@
--- Words that are joined one by one.
+-- Words, joined word by word.
 use Rattle.std.specs.Prelude.{◌≡◌, ℕ, List, [], ◌∷◌, ◌++◌}
 use Rattle.std.proofs.Common.{ap, sym}
 use Rattle.std.proofs.lemmas.List.{append-nil}

@@ -1,4 +1,4 @@
--- Which commands a layout has: their devices are on it and their words in range.
+-- Which commands a layout has: the layout has the device, and the words are in range.
 use Rattle.std.specs.Prelude.{◌≡◌, ℕ, ◌+◌, ◌≤◌, ◌<◌, ◌==◌, ⊤, List, IfSome, if◌then◌else◌}
 use Rattle.srcp_info.specs.declared.key.Device.{Device}
 use Rattle.srcp_info.specs.declared.value.Value.{Value}
@@ -22,12 +22,12 @@ use Rattle.srcp_grammar.specs.declared.command.Command.TheVariants.{SetLock, Che
 use Rattle.srcp_grammar.specs.Layout.{row_count}
 use Rattle.srcp_grammar.specs.Devices.{power_device, fb_device, device_in, lock_at}
 
--- V as it is kept: in an emergency stop it is 0
+-- V as the registry keeps V: 0 in an emergency stop
 abbrev pub kept_speed : (mode v : ℕ) → ℕ
 kept_speed mode v = if mode == emergency_stop then 0 else v
 
 module _ (buses : List Bus) where
-  -- the layout has the row at the device's port, and the value is one that this row may have
+  -- the layout has the row at the device's port, and this row may have the value
   abbrev pub IsSetting : Device → (port : ℕ) → Value → Type 0
   IsSetting device port shows = (port < row_count buses device) × IsValueAt device.group port shows
 
@@ -59,8 +59,8 @@ module _ (buses : List Bus) where
   abbrev pub IsTimedLock : TimedLock → Type 0
   IsTimedLock lock = IsLock lock.target × (lock.seconds ≤ most_seconds)
 
-  -- a command of the layout, and all that the grammar reads is one: the device is one of the layout, the words are in
-  -- range; a new accessory has the ports that its bus gives it; INIT of sensors asks for nothing
+  -- a command of the layout, as each command read of a line is: the layout has the device, and the words are in range.
+  -- A new accessory has the ports of the bus's accessories, and INIT of sensors has no condition
   abbrev pub IsCommandOf : Command → Type 0
   IsCommandOf (GetSession session) = session ≤ greatest_id
   IsCommandOf (TermSession session) = IfSome session (λ n. n ≤ greatest_id)

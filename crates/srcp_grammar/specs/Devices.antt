@@ -1,4 +1,4 @@
--- The devices that a command can name, their locks, and the keys of their rows.
+-- The devices of commands, their locks, and the keys of their rows.
 use Rattle.std.specs.Prelude.{ℕ}
 use Rattle.srcp_info.specs.declared.key.Group.{Group}
 use Rattle.srcp_info.specs.declared.key.Group.TheVariants.{Session, Power, Gl, Ga, Fb, LockGl, LockGa}
@@ -24,7 +24,7 @@ power_device bus = record { bus = bus; group = Power; address = 0 }
 abbrev pub fb_device : (bus port : ℕ) → Device
 fb_device bus port = record { bus = bus; group = Fb; address = port }
 
--- the group of the devices that can be locked
+-- the group of devices with locks
 abbrev pub device_group : DeviceGroup → Group
 device_group devices.Gl = Gl
 device_group devices.Ga = Ga
@@ -38,14 +38,14 @@ lock_group devices.Ga = LockGa
 abbrev pub device_in : DeviceGroup → (bus address : ℕ) → Device
 device_in group bus address = record { bus = bus; group = device_group group; address = address }
 
--- the lock of that device, which is a device of its own
+-- the lock of a locomotive or an accessory, which is a device too
 abbrev pub lock_on : DeviceGroup → (bus address : ℕ) → Device
 lock_on group bus address = record { bus = bus; group = lock_group group; address = address }
 
--- the locomotive or the accessory that is named
+-- the locomotive or the accessory of a target
 abbrev pub device_at : Target → Device
 device_at target = device_in target.group target.bus target.address
 
--- and its lock
+-- and the lock of the target
 abbrev pub lock_at : Target → Device
 lock_at target = lock_on target.group target.bus target.address

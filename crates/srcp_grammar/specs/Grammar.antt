@@ -1,4 +1,4 @@
--- How a line is read as a command of the layout, or refused by its first fault.
+-- How a line is read as a command of the layout, or refused by the line's first fault.
 use Rattle.std.specs.Prelude.{ℕ, codes, ◌-◌, Bool, true, false, ◌||◌, ◌==◌, nat_lt, nat_le, if◌then◌else◌, List, []}
 use Rattle.std.specs.Prelude.{◌∷◌, length, find, Option, Some, None, Result, Ok, Err}
 use Rattle.std.specs.List.{join_with_byte}
@@ -41,7 +41,7 @@ abbrev pub ◌>>=◌ : {A B : Type 0} → Result A Code → (A → Result B Code
 (Ok x) >>= f = f x
 (Err code) >>= f = Err code
 
--- what the function makes of what is read
+-- the function's result for the value read
 infixl 10 ◌<$>◌
 abbrev pub ◌<$>◌ : {W A B : Type 0} → (A → B) → (W → Result A Code) → W → Result B Code
 (make <$> read) w = read w >>= (λ x. Ok (make x))
@@ -50,7 +50,7 @@ abbrev pub ◌<$>◌ : {W A B : Type 0} → (A → B) → (W → Result A Code) 
 abbrev pub default_steps : ℕ
 default_steps = 28
 
--- the functions of a locomotive with such a decoder, if the command names none
+-- the functions of a locomotive of protocol P, if the command names none
 abbrev pub default_functions : ℕ
 default_functions = 5
 
@@ -60,24 +60,24 @@ Parser A = List (List ℕ) → Result A Code
 
 -- ---- keywords
 
--- what the table has for the word, in any case of its letters
+-- the table's value for the word, in capital or small letters
 abbrev pub named_in : {A : Type 0} → List (List ℕ × A) → List ℕ → Option A
 named_in table word = option_map (λ entry. entry.1) (find (λ entry. is_keyword entry.0 word) table)
 
--- the words that may come first
+-- the possible first words
 abbrev pub operations : List (List ℕ × Operation)
 operations =
     (codes "SET", Set) ∷ (codes "GET", Get) ∷ (codes "CHECK", Check) ∷ (codes "INIT", Init) ∷ (codes "TERM", Term)
     ∷ (codes "WAIT", Wait) ∷ (codes "VERIFY", Verify)
     ∷ (codes "RESET", Reset) ∷ []
 
--- the words that may come third
+-- the possible third words
 abbrev pub groups : List (List ℕ × CommandGroup)
 groups =
     (codes "GL", Gl) ∷ (codes "GA", Ga) ∷ (codes "FB", Fb) ∷ (codes "LOCK", Lock) ∷ (codes "POWER", Power)
     ∷ (codes "SESSION", Session) ∷ []
 
--- the groups that a LOCK command may name
+-- the possible groups of a LOCK command
 abbrev pub device_groups : List (List ℕ × DeviceGroup)
 device_groups = (codes "GL", devices.Gl) ∷ (codes "GA", devices.Ga) ∷ []
 
@@ -101,7 +101,7 @@ number_in least most word = do
 abbrev pub bit_of : List ℕ → Result Bool Code
 bit_of = (λ number. number == 1) <$> number_in 0 1
 
--- each of them 0 or 1
+-- each word 0 or 1
 abbrev pub bits_of : Parser (List Bool)
 bits_of [] = Ok []
 bits_of (word ∷ words) = do
@@ -113,7 +113,7 @@ bits_of (word ∷ words) = do
 abbrev pub letter_of : List ℕ → Result Letter Code
 letter_of word = ok_or (named_in letters word) C420
 
--- the words joined by one space, if that can be a text
+-- the words with a space between each two, if they can be a text
 abbrev pub text_of : Parser (List ℕ)
 text_of words = if is_text (join_with_byte 32 words) then Ok (join_with_byte 32 words) else Err C412
 
@@ -133,7 +133,7 @@ abbrev pub alone : Command → Parser Command
 alone command [] = Ok command
 alone command words = Err C418
 
--- a number from least to most, and nothing else
+-- a number from least to most, and no other word
 abbrev pub one_number : (least most : ℕ) → (ℕ → Command) → Parser Command
 one_number least most make (n ∷ []) = (make <$> number_in least most) n
 one_number least most make words = miscounted 1 words
@@ -292,7 +292,7 @@ module _ (bus : Bus) where
 
 -- ---- the whole line
 
--- the bus, then the group, which has to be on it
+-- the bus, then the group, which has to be on the bus
 abbrev pub directed : List Bus → Operation → Parser Command
 directed buses operation (number ∷ word ∷ words) = do
   bus ← ok_or (option_and_then (bus_at buses) (number_of greatest_bus number)) C412
@@ -300,13 +300,13 @@ directed buses operation (number ∷ word ∷ words) = do
   if has_group bus group then asked bus operation group words else Err C422
 directed buses operation words = Err C419
 
--- the operation, then what it is directed at
+-- the operation, then the bus and the group
 abbrev pub parsed : List Bus → Parser Command
 parsed buses [] = Err C410
 parsed buses (word ∷ words) = do
   operation ← ok_or (named_in operations word) C410
   directed buses operation words
 
--- the command that the line is, or its first refusal from left to right
+-- the command of a line, or the first refusal from left to right
 abbrev pub reads : (buses : List Bus) → List ℕ → Result Command Code
 reads buses line = parsed buses (words_of line)

@@ -1,4 +1,4 @@
--- What a server is laid out as: its buses, and the devices that may be on each.
+-- The layout of a server: the buses, and the devices that may be on each.
 use Rattle.std.specs.Prelude.{◌≡◌, ℕ, ◌+◌, ◌≤◌, ◌<◌, Bool, true, false, ◌&&◌, ◌||◌, ◌==◌, nat_lt, nat_le, if◌then◌else◌}
 use Rattle.std.specs.Prelude.{List, ◌∷◌, ◌++◌, map, filter, Option, find, is_some}
 use Rattle.std.specs.List.{AllByRecursion}
@@ -41,13 +41,13 @@ module _ (buses : List Bus) where
   abbrev pub has_number : (number : ℕ) → Bool
   has_number number = is_some (bus_numbered number)
 
--- the buses with one more, by rising number
+-- the buses with a further bus, by rising number
 abbrev pub with_bus : Bus → List Bus → List Bus
 with_bus bus buses =
     filter (λ other. nat_lt other.number bus.number) buses ++ bus
     ∷ filter (λ other. nat_lt bus.number other.number) buses
 
--- the bus is beyond the limits; or else its number is there; or it may be taken, but memory was refused
+-- the bus is beyond the limits; or else the number is there; or the bus may be added, but memory was refused
 abbrev pub IsFaultOf : List Bus → Bus → LayoutFault → Type 0
 IsFaultOf buses bus OutOfRange = ¬ IsBus bus
 IsFaultOf buses bus Twice = IsBus bus × (has_number buses bus.number ≡ true)
@@ -57,7 +57,7 @@ IsFaultOf buses bus Memory = IsBus bus × (has_number buses bus.number ≡ false
 abbrev pub server : Bus
 server = record { number = 0; power = false; gl_max = 0; ga_max = 0; ga_ports = 0; fb_ports = 0 }
 
--- the bus of this number: the server or a configured one
+-- the bus of this number: the server or a configured bus
 abbrev pub bus_at : List Bus → ℕ → Option Bus
 bus_at buses number = bus_numbered (server ∷ buses) number
 
@@ -70,7 +70,7 @@ abbrev pub rows_if : Bool → ℕ → ℕ
 rows_if test n = if test then n else 0
 
 module _ (bus : Bus) where
-  -- the group that the third word of a command names is on the bus
+  -- the bus has the group named by the third word of a command
   abbrev pub has_group : CommandGroup → Bool
   has_group named.Session = bus.number == 0
   has_group named.Power = bus.power
@@ -79,12 +79,12 @@ module _ (bus : Bus) where
   has_group named.Fb = nat_lt 0 bus.fb_ports
   has_group named.Lock = nat_lt 0 bus.gl_max || nat_lt 0 bus.ga_max
 
-  -- the greatest address of the bus's locomotives or accessories, 0 if it has none
+  -- the greatest address of the bus's locomotives or accessories, 0 if the bus has none
   abbrev pub address_max : DeviceGroup → ℕ
   address_max devices.Gl = bus.gl_max
   address_max devices.Ga = bus.ga_max
 
-  -- how many rows a device of this group and address has on the bus, 0 if there is no such device
+  -- how many rows a device of this group and address has on the bus, 0 if the bus has no such device
   abbrev pub rows_on : Group → (address : ℕ) → ℕ
   rows_on Session address = rows_if (bus.number == 0 && is_within 1 greatest_id address) 1
   rows_on Power address = rows_if (bus.power && address == 0) 1
@@ -94,7 +94,7 @@ module _ (bus : Bus) where
   rows_on LockGl address = rows_if (is_within 1 bus.gl_max address) 1
   rows_on LockGa address = rows_if (is_within 1 bus.ga_max address) 1
 
--- how many rows the device has if it is there: its ports are below this number
+-- how many rows the device has once made: the ports are below this number
 abbrev pub row_count : List Bus → Device → ℕ
 row_count buses device = option_map_or (λ bus. rows_on bus device.group device.address) (bus_at buses device.bus) 0
 

@@ -96,6 +96,7 @@ pub(crate) fn parse_switch(bus: &Bus, mut words: Words<'_>) -> Result<Switch, Co
     let second = next_word(&mut words)?;
     let third = next_word(&mut words)?;
     let fourth = next_word(&mut words)?;
+    // The words are counted before any is read, so 418 comes before 412.
     no_more(words)?;
     Ok(Switch {
         bus: bus.number,

@@ -131,6 +131,7 @@ impl Layout {
         if self.bus(bus.number).is_some() {
             return Err(LayoutFault::Twice);
         }
+        // By rising number, since a listing goes by bus.
         let index = self
             .buses
             .partition_point(|other| other.number < bus.number);

@@ -9,6 +9,7 @@ use srcp_text::{Words, is_keyword, words};
 /// Limits the changes of a command: a lock and its device go, and an accessory gets its row and the rows of its ports.
 pub const MOST_CHANGES: usize = 3 + MOST_PORTS as usize;
 
+// The door weighs lines, and has no registry: so the words alone say the weight.
 /// Returns how many changes a line of a command session can bring at most, by the words alone. Keywords are read in
 /// capital or small letters.
 /// - GET and CHECK bring none, nor does a line without words.
@@ -23,6 +24,7 @@ pub fn weight(line: &[u8]) -> usize
     let Some(first) = words.next() else {
         return 0;
     };
+    // SET is compared first, since most lines begin so.
     if is_keyword(b"SET", first) || is_keyword(b"GO", first) {
         return 1;
     }

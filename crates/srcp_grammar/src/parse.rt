@@ -62,6 +62,7 @@ fn parse_words(buses: &[Bus], mut words: Words<'_>) -> Result<Command, Code>
         return Err(Code::UNKNOWN_COMMAND);
     };
     let operation = parse_operation(first)?;
+    // Both words are taken before either is read: a missing word is 419, also behind a wrong bus.
     let second = next_word(&mut words)?;
     let third = next_word(&mut words)?;
     let bus = parse_bus(buses, second)?;

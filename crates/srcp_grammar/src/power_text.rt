@@ -24,6 +24,7 @@ pub(crate) fn parse_text(mut words: Words<'_>) -> Result<Text, Code>
     let Some(first) = words.next() else {
         return Ok(text);
     };
+    // A word of a line may be longer than any text, which has no capacity for the word then.
     if first.len() > LONGEST_TEXT {
         return Err(Code::WRONG_VALUE);
     }

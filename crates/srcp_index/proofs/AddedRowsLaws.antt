@@ -1,4 +1,4 @@
--- Laws of the rows with both indexes: rows that are added.
+-- Laws of the rows with both indexes: added rows.
 use Rattle.srcp_rules.proofs.Names
 use Names.{◌≡◌, ℕ, ◌+◌, ◌≤◌, Bool, false, not, find, filter, is_some, List, [], ◌∷◌, Option, None, AllByRecursion, Less, refl}
 use Names.{ap, subst, ◌∙◌, arith, sum_by-cons, Key, Device, Row, key_cmp, all_put, rising_put, Bus, row_count, key_at}

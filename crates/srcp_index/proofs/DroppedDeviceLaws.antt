@@ -1,4 +1,4 @@
--- Laws of the rows with both indexes: a device that is dropped.
+-- Laws of the rows with both indexes: a dropped device.
 use Rattle.srcp_rules.proofs.Names
 use Names.{◌≡◌, ℕ, ◌+◌, ◌-◌, ◌<◌, ◌≤◌, Bool, true, not, ◌&&◌, cond, nat_lt, [], ◌∷◌, filter, Option, Some, None, AllByRecursion, refl, sym}
 use Names.{ap, subst, ◌∙◌, arith, Key, Device, Row, owns, can_go}

@@ -1,4 +1,4 @@
--- Laws of an index that has the pairs of rows: a row is put, looked at or taken out, and the first that is sought is found.
+-- Laws of an index with the pairs of rows: a row is put, looked at or taken out, and the first pair sought is found.
 use Rattle.srcp_rules.proofs.Names
 use Names.{◌≡◌, ℕ, ◌≤◌, Bool, true, false, ◌==◌, IsTrue, IsSome, [], ◌∷◌, ◌++◌, length, find, Option}
 use Names.{Some, option_map, AllByRecursion, sum_by, option_map_or, Less, refl, sym, ap, ◌∙◌, arith}

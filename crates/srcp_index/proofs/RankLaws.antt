@@ -1,4 +1,4 @@
--- Which rows have a rank, and what an index has of them.
+-- Which rows have a rank, and the pairs of these rows in an index.
 use Rattle.srcp_rules.proofs.Names
 use Names.{◌≡◌, ℕ, ◌+◌, ◌<◌, ◌≤◌, true, IsTrue, IsSome, IfSome, List, length, Option, Some, None, AllByRecursion}
 use Names.{ap, sym, ◌∙◌, arith, Key, Group, Value, Row, IsMoment, IsValueAt, can_go, Bus, State, IsRowOf}

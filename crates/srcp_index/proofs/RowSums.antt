@@ -1,4 +1,4 @@
--- Sums over the rows of a registry, with one row put or looked at apart.
+-- Sums over the rows of a registry, with a single row put or looked at apart.
 use Rattle.srcp_rules.proofs.Names
 use Names.{◌≡◌, ℕ, ◌+◌, Bool, true, not, cond, [], ◌∷◌, filter, Option, Some, sum_by, is_gt, is_eq, ordering_reverse, Ordering}
 use Names.{refl, sym, ap, ◌∙◌, arith, sum_by-cons, sum_by-append, Key, Row, key_cmp, is_after, key_cmp_total, rising_put, State}

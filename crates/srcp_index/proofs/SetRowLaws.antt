@@ -1,4 +1,4 @@
--- Laws of the rows with both indexes: a row that is set.
+-- Laws of the rows with both indexes: a set row.
 use Rattle.srcp_rules.proofs.Names
 use Names.{◌≡◌, ℕ, ◌+◌, true, false, not, cond, is_some, IsSome, IsTrue, List, Option, Some, None, refl, sym, ap, subst, ◌∙◌, arith}
 use Names.{true≢false, Row, can_go, all_filter, all_put, rising_put, Bus, State, IsRowOf, row_at, put_row, holder_of, found_holds}

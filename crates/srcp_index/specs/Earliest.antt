@@ -3,7 +3,7 @@ use Rattle.std.specs.Prelude.{◌≡◌, ℕ, ◌≤◌, Any, IfSome, Option, So
 use Rattle.std.specs.List.{AllByRecursion}
 use Rattle.srcp_rules.specs.State.{State}
 
--- the first of the due moments of the rows: no row falls due before it, and one does at it; none if no row has one
+-- the first of the rows' due moments: no row falls due earlier, and a row falls due then; none if no row falls due
 abbrev pub IsEarliestDue : Option ℕ → State → Type 0
 IsEarliestDue None state = AllByRecursion (λ row. row.due ≡ None) state
 IsEarliestDue (Some first) state =

@@ -1,4 +1,4 @@
--- How indexes keep a pair of each row that has a rank: its due moment, or the session that holds it.
+-- How indexes keep a pair of each row with a rank: a due moment, or the session of a lock.
 use Rattle.std.specs.Prelude.{◌≡◌, ℕ, ◌<◌, ◌≤◌, Bool, true, false, IsTrue, IsSome, List, [], ◌∷◌, fold, flat_map}
 use Rattle.std.specs.Prelude.{length, Option}
 use Rattle.std.specs.List.{AllByRecursion, count_by}
@@ -19,7 +19,7 @@ use Rattle.srcp_index.specs.Ordered.{insert_by, order_by}
 abbrev pub at_rank : Row → (rank : ℕ) → Pair
 at_rank row r = record { rank = r; key = row.shown.key }
 
--- the pair of the row, if it has a rank
+-- the pair of the row, if the row has a rank
 abbrev pub pair_of : (rank : Row → Option ℕ) → Row → List Pair
 pair_of rank row = option_map_or (λ r. at_rank row r ∷ []) (rank row) []
 
@@ -31,14 +31,14 @@ pairs_of rank state = flat_map (pair_of rank) state
 abbrev pub Edit : Type 0
 Edit = (Pair → Pair → Bool) → Pair → List Pair → List Pair
 
--- the index edited at the pair of the key, if it has a rank
+-- the index edited at the pair of the key, if there is a rank
 abbrev pub pair_edited : Edit → (rank : Option ℕ) → Key → IndexModel → IndexModel
 pair_edited edit rank k index = record index {
   pairs =
       option_map_or (λ r. edit (before index.since) (record { rank = r; key = k }) index.pairs) rank index.pairs;
 }
 
--- the moment at which the row is due, if there is one
+-- the moment at which the row falls due, if any
 abbrev pub due_of : Row → Option ℕ
 due_of row = row.due
 
@@ -53,11 +53,11 @@ row_edited edit row both = record {
 abbrev pub with_rows : List Row → Indexes → Indexes
 with_rows rows both = fold (λ before row. row_edited insert_by row before) both rows
 
--- the index has reserved memory for one more pair
+-- the index has reserved memory for a further pair
 abbrev pub HasReserved : IndexModel → Type 0
 HasReserved index = length index.pairs < index.reserved
 
--- the row is of a device that comes and goes
+-- the row's device comes and goes
 abbrev pub is_removable : Row → Bool
 is_removable row = can_go row.shown.key.group
 
@@ -68,11 +68,11 @@ may_rank LockGl = true
 may_rank LockGa = true
 may_rank other = false
 
--- how many rows are of a device that comes and goes
+-- how many rows have a device that comes and goes
 abbrev pub removable_rows : State → ℕ
 removable_rows state = count_by is_removable state
 
--- no row has a rank but of an accessory or a lock, and its port is one that its group may have
+-- only a row of an accessory or of a lock has a rank, and the row's port is a port of the group
 pub record IsRankedRow (row : Row) : Type 0 where
   pub due : IsSome (due_of row) → IsTrue (may_rank row.shown.key.group)
   pub held : IsSome (holder_of row) → IsTrue (may_rank row.shown.key.group)
@@ -83,7 +83,7 @@ pub record HasPairs (rank : Row → Option ℕ) (state : State) (index : IndexMo
   pub pairs : index.pairs ≡ order_by (before index.since) (pairs_of rank state)
   pub reserved : count ≤ index.reserved
 
--- the keys rise, both indexes have the pairs of the rows, and memory for all that come and go, and these are counted
+-- the keys rise; both indexes have the pairs of the rows, and memory for `count` pairs, one for each row that can go
 pub record IsIndexed (state : State) (both : Indexes) (count : ℕ) : Type 0 where
   pub rising : IsRising state
   pub due : HasPairs due_of state both.moments count

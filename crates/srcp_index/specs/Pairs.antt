@@ -16,7 +16,7 @@ order since a b =
 abbrev pub before : (since : ℕ) → Pair → Pair → Bool
 before since a b = is_lt (order since a b)
 
--- an index as contracts see it: its pairs in the order since the moment, and how many it has reserved memory for
+-- the model of an index: the pairs in the order since the moment, and for how many pairs memory is reserved
 pub record IndexModel : Type 0 where
   pub since : ℕ
   pub pairs : List Pair
@@ -26,7 +26,7 @@ pub record IndexModel : Type 0 where
 abbrev pub is_due_beyond : (moment : ℕ) → Cursor → Pair → Bool
 is_due_beyond moment cursor pair = nat_le pair.rank moment && not (has_reached cursor pair.key)
 
--- the least rank of the pairs: no pair has a lesser one, and one pair has it; none if there is no pair
+-- the least rank of the pairs: no pair has a lesser rank, and a pair has this rank; none if there is no pair
 abbrev pub IsLeastRank : Option ℕ → List Pair → Type 0
 IsLeastRank None pairs = pairs ≡ []
 IsLeastRank (Some rank) pairs = AllByRecursion (λ pair. rank ≤ pair.rank) pairs × Any (λ pair. pair.rank ≡ rank) pairs

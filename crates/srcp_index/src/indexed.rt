@@ -21,6 +21,7 @@ pub struct Indexed<R: Rows> {
     rows: R,
     indexes: Indexes,
     /// The number of rows of devices that come and go. The indexes reserve memory for as many.
+    // Exact: with a count that stayed as devices went, each INIT would reserve more memory.
     count: usize,
 }
 
@@ -92,6 +93,7 @@ impl<R: Rows> Rows for Indexed<R> {
 
     #[inline(always)]
     fn set(&mut self, row: Row) {
+        // A row of any other group has no rank, and is set without a look at the row before.
         if !may_rank(row.shown.key.group) {
             return self.rows.set(row);
         }
@@ -104,6 +106,7 @@ impl<R: Rows> Rows for Indexed<R> {
     }
 
     fn drop_device(&mut self, device: Device) {
+        // As many ports as the group may have: a lock has a single row, and an accessory nine.
         for port in 0..most_rows(device.group) {
             let key = Key {
                 bus: device.bus,

@@ -1,4 +1,4 @@
--- Laws of rows that are kept at their keys.
+-- Laws of rows kept at their keys.
 use Rattle.std.proofs.lemmas.Grind.{common_steps}
 use Rattle.std.specs.Prelude.{◌≡◌, ℕ, ◌+◌, Bool, true, false, not, List, [], ◌∷◌, length, None, ⊤}
 use Rattle.std.specs.BTreeMap.{insert_entry, is_at}

@@ -1,4 +1,4 @@
--- Laws of the places of an array that stand past a list's end.
+-- Laws of the places of an array past a list's end.
 use Rattle.std.specs.Prelude.{◌≡◌, ℕ, ◌+◌, ◌-◌, ◌<◌, ◌≤◌, List, length, replicate, take, drop, slice_set}
 use Rattle.std.proofs.Common.{ap, sym, ◌∙◌, arith, drop-drop}
 use Rattle.std.proofs.lemmas.List.{length-take-le, length-set, drop-set-lt, drop-replicate}

@@ -1,61 +1,23 @@
--- Laws of the words of a text that is cut at its spaces from the front.
-use Rattle.std.specs.Prelude.{◌≡◌, ℕ, ◌+◌, ◌/◌, ◌%◌, ◌^◌, ◌<◌, ◌≤◌, Bool, false, true, List, [], ◌∷◌, ◌++◌, length, map, take, drop}
-use Rattle.std.specs.Prelude.{position, ◌==◌, Some, None}
-use Rattle.std.specs.List.{list_any, position_or_len, before_first, after_first, join_with_byte}
+-- Laws of the words of a text, cut at the spaces from the front.
+use Rattle.std.specs.Prelude.{◌≡◌, ℕ, ◌/◌, ◌%◌, ◌^◌, ◌<◌, Bool, false, true, List, [], ◌∷◌, ◌++◌, length, map, ◌==◌, Some}
+use Rattle.std.specs.List.{list_any, before_first, after_first, join_with_byte}
 use Rattle.std.specs.Char.{is_ascii_digit}
 use Rattle.std.specs.Fmt.{decimal}
 use Rattle.std.proofs.Common.{refl, arith}
-use Rattle.std.proofs.lemmas.Bool.{lt-ltb, eqb-true, both_ways}
+use Rattle.std.proofs.lemmas.Bool.{eqb-true, both_ways}
 use Rattle.std.proofs.lemmas.Bool.Decides.{nat_tests}
-use Rattle.std.proofs.lemmas.Option.{none-some}
 use Rattle.std.proofs.lemmas.Fmt.{digits_decimal}
-use Rattle.std.proofs.lemmas.List.{take_all, drop_all, append_assoc, length-append}
-use Rattle.std.proofs.Math.Seq.{take-append_seam, drop-append-add}
+use Rattle.std.proofs.lemmas.List.{append_assoc, length-append}
 use Rattle.srcp_text.specs.Stamp.{stamp, three_digits}
-use Rattle.srcp_text.specs.Words.{number_of, plain_number_of}
-use Rattle.srcp_text.proofs.NumberLaws.{own, has_leading_zero-decimal, plain_number_of-decimal}
+use Rattle.srcp_text.specs.Words.{plain_number_of}
+use Rattle.srcp_text.proofs.CutLaws.{cut_at}
+use Rattle.srcp_text.proofs.NumberLaws.{own, plain_number_of-decimal}
 use Rattle.srcp_text.proofs.StampLaws.{digits_free, stamp_free, digit_no_point}
 use Rattle.srcp_info.specs.Line.{bit_word}
 use Rattle.srcp_info.specs.declared.scan.InfoKind.{InfoKind}
 use Rattle.srcp_info.specs.WellFormed.{is_space}
 use Rattle.srcp_info.specs.Read.{kind_code}
 use Rattle.srcp_info.proofs.LineLaws.{join-cons}
-
--- ---- a text cut at the first byte that passes
-
--- if one does
-pub cut_some : (p : ℕ → Bool) (xs : List ℕ) (n : ℕ) → position p xs ≡ Some n
-    → (take n xs ≡ before_first p xs) × (drop (n + 1) xs ≡ after_first p xs)
-cut_some p xs n e = grind arith
-
--- if none does
-pub cut_none : (p : ℕ → Bool) (xs : List ℕ) → position p xs ≡ None → (xs ≡ before_first p xs) × ([] ≡ after_first p xs)
-cut_none p xs e = grind (arith, none-some, lt-ltb, take_all, drop_all)
-
-position_or_len-none : (p : ℕ → Bool) (w : List ℕ) → list_any p w ≡ false → position_or_len p w ≡ length w
-position_or_len-none p [] e = grind arith
-position_or_len-none p (x ∷ w) e = grind (arith, position_or_len-none p w)
-
-position_or_len-append : (p : ℕ → Bool) (w : List ℕ) (y : ℕ) (ys : List ℕ) → list_any p w ≡ false → p y ≡ true
-    → position_or_len p (w ++ y ∷ ys) ≡ length w
-position_or_len-append p [] y ys e h = grind arith
-position_or_len-append p (x ∷ w) y ys e h = grind (arith, position_or_len-append p w y ys)
-
--- what stands before the first and what stands after it
-pub cut_at : (p : ℕ → Bool) (w : List ℕ) (y : ℕ) (ys : List ℕ) → list_any p w ≡ false → p y ≡ true
-    → (before_first p (w ++ y ∷ ys) ≡ w) × (after_first p (w ++ y ∷ ys) ≡ ys)
-cut_at p w y ys e h = grind (arith, position_or_len-append, take-append_seam, drop-append-add)
-
--- and if none passes, all of it and nothing
-pub cut_nowhere : (p : ℕ → Bool) (w : List ℕ) → list_any p w ≡ false → (before_first p w ≡ w) × (after_first p w ≡ [])
-cut_nowhere p w e = grind (arith, take_all, drop_all, position_or_len-none)
-
--- so a word is cut off the words that spaces join
-pub cut_join : (w : List ℕ) (ws : List (List ℕ)) → list_any is_space w ≡ false
-    → (before_first is_space (join_with_byte 32 (w ∷ ws)) ≡ w)
-    × (after_first is_space (join_with_byte 32 (w ∷ ws)) ≡ join_with_byte 32 ws)
-cut_join w [] e = cut_nowhere is_space w e
-cut_join w (v ∷ ws) e = cut_at is_space w 32 (join_with_byte 32 (v ∷ ws)) e refl
 
 -- ---- words without a space
 
@@ -75,10 +37,6 @@ pub kind_no_space : (kind : InfoKind) → list_any is_space (kind_code kind) ≡
 kind_no_space kind = grind arith
 
 -- ---- numbers
-
--- a printed number is read as that number
-pub number_of-decimal : (max n : ℕ) → n ≤ max → n < 2 ^ 64 → number_of max (decimal n) ≡ Some n
-number_of-decimal max n le h = rw (has_leading_zero-decimal n h) at (plain_number_of-decimal max n le h)
 
 -- the seconds of a stamp stand before its point, and its thousandths after it
 pub cut_stamp : (moment : ℕ) → moment < 2 ^ 64 → (before_first (λ byte. byte == 46) (stamp moment) ≡ decimal (moment / 1000))

@@ -1,4 +1,4 @@
--- Laws of what the words of a line tell.
+-- The words of a line tell the change of the line.
 use Rattle.std.proofs.lemmas.Grind.{common_steps}
 use Rattle.std.specs.Prelude.{◌≡◌, ℕ, ◌^◌, ◌<◌, ◌-◌, Bool, List, ◌∷◌, length, take}
 use Rattle.std.specs.List.{join_with_byte}

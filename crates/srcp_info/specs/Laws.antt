@@ -1,4 +1,4 @@
--- What holds of all lines, and of all that a client holds.
+-- Laws of all lines, and of all rows of a client.
 use Rattle.std.specs.Prelude.{◌≡◌, ℕ, ◌≤◌, false, List, [], ◌∷◌, ◌++◌, length, Option, Some}
 use Rattle.std.specs.List.{list_any}
 use lib.Chars.{codes}
@@ -31,12 +31,12 @@ RepliesHaveLines =
 abbrev pub LinesDiffer : Type 0
 LinesDiffer = (c d : Change) → IsWellFormed c → IsWellFormed d → line c ≡ line d → c ≡ d
 
--- what was written is what is read
+-- a line is read as the change that was written
 abbrev pub LinesReadAgain : Type 0
 LinesReadAgain = (change : Change) (text : List ℕ) (result : Option Change) → IsWellFormed change
     → line change ≡ text ++ codes "\n" → Reads text result → result ≡ Some change
 
--- bytes hold the lines of one list of changes
+-- bytes are the lines of at most one list of changes
 abbrev pub BytesHoldOnce : Type 0
 BytesHoldOnce = (bytes : List ℕ) (xs ys : List Change) (begun rest : List ℕ) → HoldsLines bytes xs begun
     → HoldsLines bytes ys rest → (xs ≡ ys) × (begun ≡ rest)
@@ -45,7 +45,7 @@ BytesHoldOnce = (bytes : List ℕ) (xs ys : List Change) (begun rest : List ℕ)
 abbrev pub ClientRises : Type 0
 ClientRises = (changes : List Change) → IsRisingBy (λ row. row.key) (client changes)
 
--- and one more change changes them
+-- and each further change changes the client's rows
 abbrev pub ClientFollows : Type 0
 ClientFollows =
     (changes : List Change) (change : Change) → client (changes ++ change ∷ []) ≡ changed change (client changes)

@@ -41,7 +41,7 @@ most_functions = 29
 abbrev pub emergency_stop : ℕ
 emergency_stop = 2
 
--- the greatest speed, and the greatest limit of speed that a client may give
+-- the greatest V and the greatest Vmax of a command
 abbrev pub greatest_speed : ℕ
 greatest_speed = 65535
 
@@ -69,11 +69,11 @@ longest_line = 126
 abbrev pub longest_short_reply : ℕ
 longest_short_reply = 64
 
--- the most bytes of a piece: what one call hands to a connection
+-- the most bytes of a piece, which a single call hands to a connection
 abbrev pub most_in_piece : ℕ
 most_in_piece = 256
 
--- the most changes that wait for a panel
+-- the most waiting changes of a panel
 abbrev pub most_waiting : ℕ
 most_waiting = 256
 

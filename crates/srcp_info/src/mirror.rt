@@ -38,6 +38,7 @@ pub enum MirrorFault {
 /// ```
 #[derive(Drop)]
 pub struct Mirror {
+    // A map costs little for rows in any order. A list by rising keys moves its rows for each row between others.
     by_key: BTreeMap<Key, Shown>,
 }
 

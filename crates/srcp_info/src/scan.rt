@@ -63,6 +63,7 @@ pub(crate) fn next_number(text: &[u8]) -> (u32, &[u8])
         → (result.0 ≡ number) × (result.1.now ≡ join_with_byte 32 others) }
 {
     let (word, rest) = next_word(text);
+    // 0 stands for a word that is no number: `read_change` writes the change again and compares the lines.
     (read_number(word, u32::MAX).unwrap_or(0), rest)
 }
 
@@ -144,6 +145,7 @@ pub(crate) fn next_letter(text: &[u8]) -> (Letter, &[u8])
         b"N" => (Letter::N, rest),
         b"M" => (Letter::M, rest),
         b"S" => (Letter::S, rest),
+        // Any other word too, since `read_change` compares the lines.
         _ => (Letter::P, rest),
     }
 }

@@ -108,6 +108,7 @@ fn put_functions<const N: usize>(functions: &Bits, buffer: &mut ArrayVec<u8, N>)
 {
     let count = functions.len();
     let bits = functions.as_slice();
+    // The functions are appended at once, since each push reads and writes the length of the line.
     let mut words = [0; 2 * Bits::CAPACITY];
     for index in 0..count {
         words[2 * index] = b' ';
@@ -180,6 +181,7 @@ fn put_info<const N: usize>(
         ≡ buffer.old.items ++ join_with_byte 32 (info_words moment code.now bus group []) }
 {
     put_stamp(moment, buffer);
+    // An array of fixed length is appended without a call.
     put_bytes(
         &[
             b' ', code[0], code[1], code[2], b' ', b'I', b'N', b'F', b'O',

@@ -1,4 +1,4 @@
--- What may be added to a registry: all the rows of a device that is not there.
+-- The rows that may be added to a registry: all rows of a device that is not there.
 use Rattle.srcp_rules.proofs.Names
 use Names.{◌≡◌, ℕ, ◌<◌, ◌≤◌, false, ◌&&◌, ◌==◌, List, [], ◌∷◌, map, Option, None, refl, sym, ap, ◌∙◌, true≢false, arith, range_with_len}
 use Names.{Device, Mode, Value, first_key, IsMoment, Bus, row_count, rows_if, key_at, session_device, State, IsWhole, IsRowOf, has_row}

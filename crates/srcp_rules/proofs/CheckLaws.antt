@@ -1,4 +1,4 @@
--- What a refusal does, and what a CHECK answers.
+-- The effect of a refusal, and the answer of a CHECK.
 use Rattle.srcp_rules.proofs.Names
 use Names.{arith, ◌≡◌, ℕ, false, List, [], refl, ap, Code, Command, CheckGl, CheckGa, CheckLock, Bool, State, Update, Effect, effect}
 use Names.{refused, refusals, unless_refused}

@@ -1,4 +1,4 @@
--- What holds of whatever a command does, if it holds of its refusals, of what GET shows and of the changes that are accepted.
+-- Laws of every command follow from the laws of refusals, of rows that GET shows, and of accepted changes.
 use Rattle.srcp_rules.proofs.Names
 use Names.{cases_Bool, inl, inr, ◌≡◌, ℕ, ◌+◌, Bool, true, false, cond, ◌==◌, List, [], ◌∷◌, ◌++◌, Option, Some, None, refl, arith}
 use Names.{AllByRecursion, Key, Device, Row, Code, C414, C416, Accepted, first_key, all_append, DeviceGroup, Command, SetPower, SetGl}

@@ -1,4 +1,4 @@
--- Rows that are sought beyond a cursor.
+-- Rows beyond a cursor.
 use Rattle.srcp_rules.proofs.Names
 use Names.{cases_Bool, inl, inr, same_Some, ◌≡◌, ◌<◌, Bool, true, false, not, ◌&&◌, cond, List, [], ◌∷◌, length, filter, find, Some, None}
 use Names.{refl, sym, ap, subst, ◌∙◌, arith, Less, Key, Row, Cursor, key_cmp, has_reached, filter_every, reached_below, after_from_less}

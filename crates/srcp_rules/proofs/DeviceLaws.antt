@@ -1,4 +1,4 @@
--- The rows of devices of one group of one bus, by address: look-ups and changes.
+-- The rows of devices of a group of a bus, by address: look-ups and changes.
 use Rattle.srcp_rules.proofs.Names
 use Names.{◌≡◌, ℕ, zero, suc, ◌+◌, ◌<◌, ◌==◌, Bool, true, false, is_some, not, List, [], ◌∷◌, ◌++◌, drop, length, find, Option, Some, None}
 use Names.{nat_lt, slice_get, slice_index_or, refl, sym, ap, subst, ◌∙◌, arith, true≢false, find-append, none-some, same_Some}

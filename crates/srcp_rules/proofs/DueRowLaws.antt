@@ -1,4 +1,4 @@
--- What a row that is due brings, and the beginning of a session, leaves a whole registry whole.
+-- The change of a due row, and the beginning of a session, leave a whole registry whole.
 use Rattle.srcp_rules.proofs.Names
 use Names.{arith, ◌≡◌, ℕ, true, false, List, Option, None, IfSome, ◌==◌, nat_le, refl, ap, option_map_or, Group, Key, Mode, Value, Row}
 use Names.{device_of, first_key, IsMoment, IsValueAt, is_lock, can_go, Bus, IsKeyOf, State, IsWhole, MayFall, has_row, updated, holder_in}

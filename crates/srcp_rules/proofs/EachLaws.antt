@@ -1,4 +1,4 @@
--- What holds of each item of a list.
+-- Laws of each item of a list.
 use Rattle.std.specs.Prelude.{◌≡◌, ℕ, zero, suc, ◌+◌, ◌≤◌, ◌<◌, Bool, true, is_some, List, [], ◌∷◌, map, filter, find}
 use Rattle.std.proofs.Common.{arith, inl, inr, refl, sym, ap, ◌∙◌}
 use Rattle.std.proofs.lemmas.Bool.{cases_eq}

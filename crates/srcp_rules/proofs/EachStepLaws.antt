@@ -1,4 +1,4 @@
--- Each step leaves a whole registry whole, tells only what can be told, and gives a device that is there no new row.
+-- Each step leaves a whole registry whole, brings only changes with lines, and gives no device a further row.
 use Rattle.srcp_rules.specs.Laws.{CanBeTold, RefusalsNeedNoMemory, StepsAddNoRow, StepsCanBeTold, StepsKeepWhole}
 use Rattle.srcp_rules.specs.Effect.{adds_rows, effect as effect_of}
 use Rattle.srcp_rules.specs.Steps.{Order, Obeyed, Began, Moment, Ended, effect, is_accepted}

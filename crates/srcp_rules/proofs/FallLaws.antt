@@ -1,4 +1,4 @@
--- What a moment makes of each row, and what a timed SET leaves behind.
+-- Each row after a moment, and the rows after a timed SET.
 use Rattle.srcp_rules.proofs.Names
 use Names.{cases_Bool, inl, inr, ◌≡◌, ℕ, Bool, true, false, cond, map, filter, List, [], ◌∷◌, Option, Some, None, refl, sym}
 use Names.{ap, subst, ◌∙◌, arith, false_from_ne_true, option_map_or, AllByRecursion, Key, Value, Row, Code, Accepted, device_of, first_key}

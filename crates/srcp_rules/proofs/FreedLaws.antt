@@ -1,4 +1,4 @@
--- What the end of a session leaves.
+-- The registry after the end of a session.
 use Rattle.srcp_rules.proofs.Names
 use Names.{arith, ◌≡◌, ℕ, false, ◌==◌, List, Option, Some, refl, option_map_or, Key, Row, Bus, session_device, State, IsWhole, row_at}
 use Names.{is_there, holder_of, updated_all, freed}

@@ -1,4 +1,4 @@
--- A device that is made, or made afresh.
+-- A device made for the first time, or afresh.
 use Rattle.srcp_rules.proofs.Names
 use Names.{arith, cases_Bool, inl, inr, false_from_ne_true, ◌≡◌, ℕ, ◌<◌, true, false, cond, is_some, List, [], ◌∷◌, ◌++◌, map, sym, ap, ◌∙◌}
 use Names.{true≢false, Row, Change, C414, Value, first_key, owns, Bus, DeviceGroup, row_count, device_in, lock_on, State, Update, IsWhole}

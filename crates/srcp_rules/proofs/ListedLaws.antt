@@ -1,4 +1,4 @@
--- Rows in entries by rising number: what a look-up and a change of them come to at the entry of one number.
+-- Rows in entries by rising number: a look-up and a change at the entry of a number.
 use Rattle.srcp_rules.proofs.Names
 use Names.{cases_Bool, ◌≡◌, ℕ, ◌<◌, Bool, true, false, not, ◌&&◌, cond, List, [], ◌∷◌, ◌++◌, flat_map, Some, None, refl, sym, ap, subst}
 use Names.{◌∙◌, arith, true≢false, nat_cmp_total, ranked, tied_itself, none-some, same_Some, AllByRecursion, keys_of, set_value}

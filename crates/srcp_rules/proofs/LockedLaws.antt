@@ -1,4 +1,4 @@
--- No command of a session touches a device that another session has locked.
+-- No command of a session touches a device locked by another session.
 use Rattle.srcp_rules.specs.Laws.{LocksHold}
 use Rattle.srcp_rules.proofs.Names
 use Names.{arith, each-range, ◌≡◌, ℕ, true, false, List, [], ◌∷◌, Option, refl, sym, ap, ◌∙◌, true≢false, AllByRecursion, Key, Device}

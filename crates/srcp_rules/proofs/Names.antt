@@ -1,4 +1,4 @@
--- The names that most proofs use.
+-- The names used by most proofs.
 pub use Rattle.std.proofs.Common.{ap, append_assoc, arith, inl, inr, refl, rules, subst, sym, take, true≢false, ◌-◌, ◌∙◌}
 pub use Rattle.std.proofs.lemmas.Bool.{cases_Bool, eqb-true, false_from_ne_true, leb-true, ltb-false, ltb-true}
 pub use Rattle.std.proofs.lemmas.Cmp.{nat_cmp_total, ranked, tied_itself}

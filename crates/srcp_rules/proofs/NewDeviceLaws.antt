@@ -1,4 +1,4 @@
--- The rows of a device that is new: they are by rising port, and as few as its group has.
+-- The rows of a new device: by rising port, and at most the rows of the group.
 use Rattle.srcp_rules.proofs.Names
 use Names.{each-range, IsIn, ◌≡◌, ℕ, ◌<◌, ◌≤◌, false, List, [], ◌∷◌, length, map, slice_get, Option, Some, refl, sym, ap, subst, ◌∙◌, arith}
 use Names.{none-some, same_Some, AllByRecursion, range_with_len, option_map_or, Group, Key, Device, Row, device_of, Bus, bus_at, row_count}

@@ -1,4 +1,4 @@
--- Values by the numbers of their slots: look-ups and changes of the one at a number.
+-- Values by the numbers of their slots: look-ups and changes at a number.
 use Rattle.srcp_rules.proofs.Names
 use Names.{◌≡◌, ℕ, zero, suc, ◌+◌, ◌<◌, ◌≤◌, List, [], ◌∷◌, ◌++◌, length, Option, Some, None, drop, slice_index_or, slice_set, refl, sym}
 use Names.{ap, subst, ◌∙◌, arith, AllByRecursion, option_map, numbered, AreSorted, entry_at}

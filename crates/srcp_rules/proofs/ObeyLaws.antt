@@ -1,4 +1,4 @@
--- What is refused and what is accepted of a command, and the rows that it sets.
+-- The refused and the accepted effects of a command, and the rows set.
 use Rattle.srcp_rules.proofs.Names
 use Names.{◌≡◌, ℕ, ◌+◌, ◌≤◌, ◌<◌, min, Bool, true, false, not, cond, nat_lt, List, [], length, Option, Some, None, IfSome, refl, sym, ap}
 use Names.{arith, option_map_or, Group, Key, Row, Code, Accepted, Value, first_key, IsMoment, IsValueAt, Bus, row_count, SetPower, SetGl}

@@ -1,4 +1,4 @@
--- Keys by bus, by group on one bus, by address in one group, and by port of one device.
+-- Keys by bus, by group on a bus, by address in a group, and by port of a device.
 use Rattle.srcp_rules.proofs.Names
 use Names.{arith, ◌≡◌, ℕ, ◌<◌, true, false, refl, sym, ap, ◌∙◌, nat_cmp, ordering_then, Ordering, Less, Equal, Greater, Group, Key, Device}
 use Names.{key_cmp, device_of, owns, nat_tie, owns-device_of, device_from_owns, key_at, IsIn, false_from_ne_true}

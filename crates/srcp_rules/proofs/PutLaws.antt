@@ -1,4 +1,4 @@
--- Looking through two lists of rows, one after the other, and changing one of them.
+-- Look-ups in two lists of rows, the second behind the first, and changes of either list.
 use Rattle.srcp_rules.proofs.Names
 use Names.{◌≡◌, Bool, true, false, not, List, [], ◌∷◌, ◌++◌, filter, find, None, refl, sym, ap, ◌∙◌, append_assoc, find-append}
 use Names.{AllByRecursion, option_or, is_gt, Less, Device, Row, key_cmp, is_after, owns, after_from_less, filter_every, State, IsRising}

@@ -1,4 +1,4 @@
--- Several rows that are put one after another, and a device that is made afresh in place.
+-- Several rows put in turn, and a device made afresh in place.
 use Rattle.std.specs.Prelude.{◌⊎◌}
 use Rattle.srcp_rules.proofs.Names
 use Names.{cases_Bool, inl, inr, each-range, find-range, find-map, option_map, find, is_some, ◌≡◌, ℕ, ◌<◌, Bool, true, false, not, List, []}

@@ -1,4 +1,4 @@
--- Where a key is among rows by rising key, and what a write or an insert there gives.
+-- The index of a key among rows by rising key, and a write or an insert at this index.
 use Rattle.srcp_rules.proofs.Names
 use Names.{◌≡◌, ℕ, zero, suc, ◌<◌, ◌≤◌, Bool, [], ◌∷◌, ◌++◌, length, take, drop, insert, slice_set, slice_index_or, Some, None, Result, Ok}
 use Names.{Err, refl, sym, ap, subst, ◌∙◌, arith, take-append-drop, AllByRecursion, is_eq, ordering_reverse, Ordering, Less, Equal, Greater}

@@ -1,4 +1,4 @@
--- A stop stops, what is set is shown, a lock lasts, and the end of a session leaves the trains alone.
+-- A stop stops, GET shows what was set, a lock lasts, and the end of a session leaves the trains alone.
 use Rattle.srcp_rules.proofs.Names
 use Names.{arith, ◌≡◌, ℕ, Bool, true, false, length, List, [], nat_lt, refl, sym, ap, ◌∙◌, true≢false, Key, Device, Row}
 use Names.{Accepted, device_of, first_key, key_of, owns, is_lock, all_append, Bus, DeviceGroup, SetGl, device_in, lock_on, lock_group}

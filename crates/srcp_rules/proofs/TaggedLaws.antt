@@ -1,4 +1,4 @@
--- A change of the rows of one number, in entries by rising number, if keys go by that number.
+-- A change of the rows of a number, in entries by rising number, if keys go by this number.
 use Rattle.srcp_rules.proofs.Names
 use Names.{arith, ◌≡◌, ℕ, ◌<◌, not, List, [], ◌∷◌, Option, Some, None, refl, sym, ap, subst, ◌∙◌, inl, inr, AllByRecursion, Key, Device}
 use Names.{key_cmp, owns, rising_filter, all_filter, State, IsRising, row_at, without, put_rows, AreSorted, entry_at, listed, option_map_or}

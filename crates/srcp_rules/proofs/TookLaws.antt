@@ -1,4 +1,4 @@
--- What holds of whatever a command of the layout does.
+-- Laws of the effect of every command of a layout.
 use Rattle.srcp_rules.proofs.Names
 use Names.{each-map, ℕ, ◌≤◌, List, length, sym, ap, subst, inl, inr, arith, AllByRecursion, IsMoment, IsWellFormed, Bus, Command, State}
 use Names.{Update, IsWhole, effect, MayObey}

@@ -1,4 +1,4 @@
--- A line brings at most its weight.
+-- A line brings at most as many changes as the line weighs.
 use Rattle.srcp_rules.proofs.Names
 use Names.{true≢false, ◌==◌, ◌≡◌, ℕ, ◌≤◌, Bool, true, false, cond, ◌&&◌, length, find, List, [], ◌∷◌, Option, Some, None, Result, Err}
 use Names.{refl, sym, ap, subst, ◌∙◌, arith, false_from_ne_true, second_so, option_map, Code, Bus, Command}

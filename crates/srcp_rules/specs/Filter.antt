@@ -5,7 +5,7 @@ use Rattle.srcp_rules.specs.declared.filter.RowFilter.{RowFilter}
 use Rattle.srcp_rules.specs.declared.filter.RowFilter.TheVariants.{Due, HeldBy}
 use Rattle.srcp_rules.specs.Due.{is_due, is_held_by}
 
--- the filter passes the row: it is due, or a lock of the session
+-- the filter passes the row: the row is due, or is a lock of the session
 abbrev pub passes : RowFilter → Row → Bool
 passes (Due moment) row = is_due moment row
 passes (HeldBy session) row = is_held_by session row

@@ -13,7 +13,7 @@ module _ (state : State) (key : Key) (index : ℕ) where
     pub within : index < length state
     pub here : (d : Row) → (slice_index_or state index d).shown.key ≡ key
 
-  -- the key belongs between the rows before the index and those from it on
+  -- the key belongs between the rows before the index and the rows from the index on
   pub record IsGapAt : Type 0 where
     pub within : index ≤ length state
     pub below : AllByRecursion (λ row. key_cmp row.shown.key key ≡ Less) (take index state)

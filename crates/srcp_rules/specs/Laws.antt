@@ -1,4 +1,4 @@
--- What holds of every command, every moment, and every session's beginning and end.
+-- Laws of every command, every moment, and every session's beginning and end.
 use Rattle.std.specs.Prelude.{◌≡◌, ◌≢◌, ℕ, ◌+◌, ◌*◌, ◌≤◌, ◌<◌, true, false, nat_le, if◌then◌else◌, List, []}
 use Rattle.std.specs.Prelude.{take, drop, length, IsTrue, Option, Some, None, IfSome, ⊤, ◌∷◌}
 use Rattle.std.specs.List.{AllByRecursion}
@@ -42,18 +42,18 @@ OpeningsAreWhole =
 abbrev pub UpdatesKeepRising : Type 0
 UpdatesKeepRising = (update : Update) (state : State) → IsRising state → IsRising (updated update state)
 
--- a step, with all its updates, leaves the registry whole
+-- a step, with all updates, leaves the registry whole; between the Puts of a command a new device lacks rows
 abbrev pub StepsKeepWhole : Type 0
 StepsKeepWhole = (buses : List Bus) (state : State) (step : Step) → IsWhole buses state → IsStepOf buses step
     → IsTimely state step → IsWhole buses (stepped state step)
 
--- the updates of a moment do so one by one: after the first k of them it is whole, and the others are still to come
+-- each update of a moment leaves the registry whole: the registry is whole after the first k, and the others follow
 abbrev pub MomentsKeepWhole : Type 0
 MomentsKeepWhole = (buses : List Bus) (state : State) (moment k : ℕ) → IsWhole buses state → IsMoment moment
     → let after = updated_all (take k (due state moment)) state in
     IsWhole buses after × (due after moment ≡ drop k (due state moment))
 
--- and those of a session's end
+-- and so does each update of a session's end
 abbrev pub EndsKeepWhole : Type 0
 EndsKeepWhole = (buses : List Bus) (state : State) (session moment k : ℕ) → IsWhole buses state
     → let after = updated_all (take k (freed state session moment)) state in
@@ -71,7 +71,7 @@ abbrev pub EndsAddNoRow : Type 0
 EndsAddNoRow = (state : State) (session moment : ℕ)
     → AllByRecursion (λ update. AddsNoRow state update.change) (freed state session moment)
 
--- ---- what is told
+-- ---- changes and replies have lines
 
 -- a command makes no more changes than the most
 abbrev pub CommandsChangeLittle : Type 0
@@ -94,31 +94,31 @@ RepliesCanBeTold = (buses : List Bus) (state : State) (session moment : ℕ) (co
     → MayObey buses state session command → IsMoment moment
     → IsWellFormedReply (effect state session moment command).reply
 
--- ---- what the laws of a step say of each kind
+-- ---- the laws of a step, for each kind
 
--- these changes leave a whole registry whole, give a device that has rows no new one, and can be told
+-- these changes leave a whole registry whole, give a device with rows no new row, and can be told
 pub record AreOfStep (buses : List Bus) (state : State) (updates : List Update) (of timely : Type 0) : Type 0 where
   pub whole : IsWhole buses state → of → timely → IsWhole buses (updated_all updates state)
   pub adds : IsWhole buses state → of → AllByRecursion (λ update. AddsNoRow state update.change) updates
   pub told : IsWhole buses state → of → timely → CanBeTold updates
 
--- those of a command are such
+-- the changes of a command do so
 abbrev pub CommandsAreSteps : Type 0
 CommandsAreSteps = (buses : List Bus) (state : State) (session moment : ℕ) (command : Command)
     → AreOfStep buses state (effect state session moment command).updates (IsCommandOf buses command)
     (IsTrue (is_there (session_device session) state) × IsMoment moment)
 
--- those of a moment
+-- the changes of a moment do so
 abbrev pub MomentsAreSteps : Type 0
 MomentsAreSteps =
     (buses : List Bus) (state : State) (moment : ℕ) → AreOfStep buses state (due state moment) ⊤ (IsMoment moment)
 
--- those of a session's end
+-- the changes of a session's end do so
 abbrev pub EndsAreSteps : Type 0
 EndsAreSteps = (buses : List Bus) (state : State) (session moment : ℕ)
     → AreOfStep buses state (freed state session moment) ⊤ (IsMoment moment)
 
--- and that of a session's beginning
+-- and the change of a session's beginning does so
 abbrev pub BeginningsAreSteps : Type 0
 BeginningsAreSteps = (buses : List Bus) (state : State) (session moment : ℕ) (mode : Mode)
     → AreOfStep buses state (began session moment mode ∷ []) ((1 ≤ session) × (session ≤ greatest_id)) (IsMoment moment)
@@ -128,21 +128,21 @@ abbrev pub BeginningsCanBeTold : Type 0
 BeginningsCanBeTold = (session moment : ℕ) (mode : Mode) → IsMoment moment → 1 ≤ session → session ≤ greatest_id
     → IsWellFormed (began session moment mode).change
 
--- ---- what a command does not do
+-- ---- refusals and checks
 
--- a command that is refused does no more than to refuse: it changes nothing and ends nothing
+-- a refused command changes no row and ends no session
 abbrev pub RefusalsChangeNothing : Type 0
 RefusalsChangeNothing = (state : State) (session moment : ℕ) (command : Command) (code : Code)
     → (effect state session moment command).reply ≡ Refused code
     → effect state session moment command ≡ refused code
 
--- a command that another rule refuses has that refusal, whatever memory answers
+-- a command refused by another rule has the refusal of this rule, whatever memory answers
 abbrev pub RefusalsNeedNoMemory : Type 0
 RefusalsNeedNoMemory = (state : State) (session moment : ℕ) (order : Order) (code : Code)
     → (effect state session moment order.command).reply ≡ Refused code
     → effect_under state session moment order ≡ effect state session moment order.command
 
--- the SET that a CHECK is about
+-- the SET of a CHECK
 abbrev pub set_of : Command → Option Command
 set_of (CheckPower power) = Some (SetPower power)
 set_of (CheckGl drive) = Some (SetGl drive)
@@ -151,22 +151,22 @@ set_of (CheckFb sensor) = Some (SetFb sensor)
 set_of (CheckLock lock) = Some (SetLock lock)
 set_of other = None
 
--- CHECK answers what SET would, and changes nothing and ends nothing
+-- CHECK answers as SET would, and changes no row and ends no session
 abbrev pub ChecksAnswerAsSets : Type 0
 ChecksAnswerAsSets = (state : State) (session moment : ℕ) (command : Command)
     → IfSome (set_of command)
     (λ set.
     effect state session moment command ≡ record (effect state session moment set) { updates = []; ends = false })
 
--- ---- one row
+-- ---- a single row
 
--- what stands at the key is as before
+-- the row at the key is as before
 abbrev pub IsKept : Key → (before after : State) → Type 0
 IsKept key before after = row_at key after ≡ row_at key before
 
 -- ---- locks
 
--- no command of a session changes a device, or its lock, that another session has locked
+-- no command of a session changes a device locked by another session, or the lock of the device
 abbrev pub LocksHold : Type 0
 LocksHold = (state : State) (session moment : ℕ) (command : Command) (group : DeviceGroup) (bus address : ℕ)
     → IsTrue (is_locked state session group bus address)
@@ -186,48 +186,48 @@ abbrev pub MomentsKeepSessions : Type 0
 MomentsKeepSessions = (buses : List Bus) (state : State) (moment id : ℕ) → IsWhole buses state
     → IsKept (first_key (session_device id)) state (updated_all (due state moment) state)
 
--- the session is gone with all its locks, and every other session is as before
+-- the session is gone with all locks of the session, and every other session is as before
 pub record IsFreed (session : ℕ) (before after : State) : Type 0 where
   pub gone : is_there (session_device session) after ≡ false
   pub locks : (key : Key) → ForSome (row_at key after) (λ row. is_held_by session row ≡ false)
   pub others : (id : ℕ) → id ≢ session → IsKept (first_key (session_device id)) before after
 
--- the end of a session takes out its locks and its row, and no other session's row
+-- the end of a session takes out the session's locks and row, and no other session's row
 abbrev pub EndsFreeAll : Type 0
 EndsFreeAll = (buses : List Bus) (state : State) (session moment : ℕ) → IsWhole buses state
     → IsFreed session state (updated_all (freed state session moment) state)
 
--- ---- moments that are due
+-- ---- due moments
 
--- a lock that is due is gone, a port that is due is 0
+-- a due lock is gone, a due port is 0
 abbrev pub fallen : (moment : ℕ) → Key → Value → Option Row
 fallen moment key (Lock seconds session) = None
 fallen moment key other = Some (row_put moment key (GaPort false) None)
 
--- what a moment makes of a row: one that is due falls, and any other stays
+-- a row after a moment: a due row falls, and any other stays
 abbrev pub comes_to : (moment : ℕ) → Row → Option Row
 comes_to moment row = if is_due moment row then fallen moment row.shown.key row.shown.value else Some row
 
--- a moment makes this of the row at each key, whoever holds what locked
+-- the row at each key falls or stays so at a moment, whoever has locked which device
 abbrev pub MomentsCarryOut : Type 0
 MomentsCarryOut = (buses : List Bus) (state : State) (moment : ℕ) (key : Key) → IsWhole buses state → IsMoment moment
     → row_at key (updated_all (due state moment) state) ≡ option_map_or (comes_to moment) (row_at key state) None
 
--- after a SET that is accepted the port has its due moment or none, whatever it had
+-- after an accepted SET the port has the due moment of the command or none, whatever the port had before
 abbrev pub PortsAreSet : Type 0
 PortsAreSet = (state : State) (session moment : ℕ) (switch : Switch)
     → (effect state session moment (SetGa switch)).reply ≡ Accepted
     → row_at (port_key switch) (updated_all (effect state session moment (SetGa switch)).updates state)
     ≡ Some (row_of_port moment switch)
 
--- and so has a lock
+-- and a lock has the due moment of the command
 abbrev pub LocksAreSet : Type 0
 LocksAreSet = (state : State) (session moment : ℕ) (lock : TimedLock)
     → (effect state session moment (SetLock lock)).reply ≡ Accepted
     → row_at (first_key (lock_at lock.target)) (updated_all (effect state session moment (SetLock lock)).updates state)
     ≡ Some (row_of_lock moment session lock)
 
--- a port that was set to 1 for some milliseconds is 1 at each moment before their end, and 0 at each from it on
+-- a port set to 1 for some milliseconds is 1 at each moment before these have passed, and 0 from then on
 abbrev pub PortsFallBack : Type 0
 PortsFallBack = (buses : List Bus) (state : State) (session moment later milliseconds : ℕ) (switch : Switch)
     → MayObey buses state session (SetGa switch) → IsMoment moment → IsMoment later
@@ -239,7 +239,7 @@ PortsFallBack = (buses : List Bus) (state : State) (session moment later millise
     then row_put later (port_key switch) (GaPort false) None
     else row_of_port moment switch)
 
--- a lock that was set for some seconds is there at each moment before their end, and gone at each from it on
+-- a lock set for some seconds is there at each moment before these have passed, and gone from then on
 abbrev pub LocksRunOut : Type 0
 LocksRunOut = (buses : List Bus) (state : State) (session moment later : ℕ) (lock : TimedLock)
     → MayObey buses state session (SetLock lock) → IsMoment moment → IsMoment later
@@ -249,7 +249,7 @@ LocksRunOut = (buses : List Bus) (state : State) (session moment later : ℕ) (l
     ≡ (if nat_le (moment_after moment (1000 * lock.seconds)) later then None
     else Some (row_of_lock moment session lock))
 
--- a time ends that many milliseconds later if there is such a moment, and else at the greatest one
+-- a time ends after the given milliseconds, but not later than the greatest moment
 abbrev pub MomentsEnd : Type 0
 MomentsEnd = (moment milliseconds : ℕ)
     → (moment + milliseconds ≤ greatest_u64 → moment_after moment milliseconds ≡ moment + milliseconds)

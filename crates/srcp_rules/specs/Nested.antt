@@ -1,4 +1,4 @@
--- How a keeper lays out rows: a record for each bus, and in it the devices that come and go by address.
+-- How a keeper lays out rows: a record for each bus, with the devices that come and go by address.
 use Rattle.std.specs.Prelude.{◌≡◌, ℕ, ◌<◌, false, IsTrue, List, ◌∷◌, length, map, flat_map, Option}
 use Rattle.std.specs.List.{AllByRecursion}
 use Rattle.std.specs.List.Sorted.{IsStrictlySortedBy}
@@ -19,7 +19,7 @@ use Rattle.srcp_info.specs.declared.key.TheConstants.{GROUPS}
 
 -- ---- entries by number
 
--- the rows of all entries, one after another
+-- the rows of all entries, in turn
 abbrev pub listed : {X : Type 0} → (X → State) → List (ℕ × X) → State
 listed rows entries = flat_map (λ e. rows e.1) entries
 
@@ -27,7 +27,7 @@ listed rows entries = flat_map (λ e. rows e.1) entries
 abbrev pub AreSorted : {X : Type 0} → List (ℕ × X) → Type 0
 AreSorted entries = IsStrictlySortedBy nat_cmp (keys_of entries)
 
--- what is at the number
+-- the entry at the number
 abbrev pub entry_at : {X : Type 0} → ℕ → List (ℕ × X) → Option X
 entry_at number entries = lookup (is_at (nat_cmp number)) entries
 
@@ -58,7 +58,7 @@ module _ (bus : ℕ) where
     pub rising : IsRising rows
     pub each : AllByRecursion (λ row. IsIn group row.shown.key) rows
 
-  -- these are rows of the bus, each in its group
+  -- these are rows of the bus, each in the row's group
   pub record AreRowsOfBus (rows : BusRows) : Type 0 where
     pub sessions : AreOfGroup Session rows.sessions.items
     pub power : AreOfGroup Power (option_to_list rows.power)
@@ -70,7 +70,7 @@ module _ (bus : ℕ) where
 
 -- ---- the rows of a bus, group by group in the order of a listing
 
--- the rows of one group of a bus
+-- the rows of a group of a bus
 abbrev pub group_rows : BusRows → Group → State
 group_rows rows Session = rows.sessions.items
 group_rows rows Power = option_to_list rows.power
@@ -92,6 +92,6 @@ pub record AreRowsOfLayout (buses : List Bus) (rows : List (ℕ × BusRows)) : T
   pub each : AllByRecursion (λ e. AreRowsOfBus e.0 e.1) rows
   pub sorted : AreSorted rows
   pub numbers : keys_of rows ≡ map (λ bus. bus.number) (server ∷ buses)
-  -- what never goes is there
+  -- the power and the feedback ports of the layout are there
   pub stays : (device : Device) → can_go device.group ≡ false → 0 < row_count buses device
       → IsTrue (is_there device (listed bus_rows rows))

@@ -1,4 +1,4 @@
--- What a keeper of rows has, and what may be added to it.
+-- The rows of a keeper, and the rows that may be added.
 use Rattle.std.specs.Prelude.{◌≡◌, ℕ, ◌+◌, ◌≤◌, false, List, map, fold, length}
 use Rattle.std.specs.List.{AllByRecursion, range_with_len}
 use Rattle.srcp_info.specs.Limits.{most_ports}
@@ -16,7 +16,7 @@ pub record Kept : Type 0 where
   pub buses : List Bus
   pub state : State
 
--- the rows with these ones at their keys
+-- the rows, with these rows at their keys
 abbrev pub put_rows : List Row → State → State
 put_rows rows state = fold (λ before row. put_row row before) state rows
 
@@ -32,7 +32,7 @@ pub record AreRowsOf (buses : List Bus) (device : Device) (rows : List Row) : Ty
   pub few : length rows ≤ most_rows Ga
   pub each : AllByRecursion (IsRowOf buses) rows
 
--- these are all the rows of the device, and none of them is there yet
+-- these are all the rows of the device, and the registry has none of these rows yet
 pub record AreNewRowsOf (buses : List Bus) (state : State) (device : Device) (rows : List Row) : Type 0 where
   pub all : AreRowsOf buses device rows
   pub free : (port : ℕ) → has_row (key_at device port) state ≡ false

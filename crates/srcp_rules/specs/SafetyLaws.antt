@@ -1,4 +1,4 @@
--- What somebody who runs trains can rely on: a stop stops, what is set is shown, a lock lasts, and who goes leaves the
+-- Laws for people who run trains: a stop stops, GET shows what was set, a lock lasts, and who goes leaves the
 -- trains alone.
 use Rattle.std.specs.Prelude.{◌≡◌, ◌≢◌, ℕ, Bool, false, IsTrue, if◌then◌else◌, List, [], replicate, Option, Some, None}
 use Rattle.std.specs.Option.{ForSome, option_map_or}
@@ -29,7 +29,7 @@ use Rattle.srcp_rules.specs.Effect.{effect, functions_after, gl_init, has_init, 
 use Rattle.srcp_rules.specs.Due.{freed, is_held_by}
 use Rattle.srcp_rules.specs.Laws.{IsKept}
 
--- the row is set, GET replies it to any session at any moment, and every other row stays
+-- the row is set, GET replies this row to any session at any moment, and every other row stays
 pub record SetsAlone (get : Command) (row : Row) (before after : State) : Type 0 where
   pub there : row_at row.shown.key after ≡ Some row
   pub replied : (session moment : ℕ) → (effect after session moment get).reply ≡ Shows row.shown
@@ -37,7 +37,7 @@ pub record SetsAlone (get : Command) (row : Row) (before after : State) : Type 0
 
 -- ---- power and feedback
 
--- SET of power, on or off, is accepted whatever is locked; it is what GET shows next, and changes nothing else
+-- SET of power, on or off, is accepted whatever is locked; GET shows this power next, and no other row changes
 abbrev pub PowersAreSet : Type 0
 PowersAreSet = (state : State) (session moment : ℕ) (power : PowerSwitch)
     → let did = effect state session moment (SetPower power) in
@@ -56,11 +56,11 @@ SensorsAreSet = (state : State) (session moment : ℕ) (sensor : Sensor)
 
 -- ---- locomotives
 
--- the row of a locomotive that drives so
+-- the row of a locomotive with this state
 abbrev pub driving : (moment bus address : ℕ) → Value → Row
 driving moment bus address shows = row_put moment (key_at (device_in Gl bus address) 1) shows None
 
--- a locomotive drives as the accepted command says; functions that the command does not give stay
+-- a locomotive drives as the accepted command says; functions not given by the command stay
 abbrev pub DrivesAreSet : Type 0
 DrivesAreSet = (state : State) (session moment : ℕ) (drive : Drive)
     → let did = effect state session moment (SetGl drive) in
@@ -71,8 +71,8 @@ DrivesAreSet = (state : State) (session moment : ℕ) (drive : Drive)
     (GlState drive.mode (kept_speed drive.mode drive.v) drive.vmax functions))
     state (updated_all did.updates state)
 
--- an emergency stop that gives no function is accepted if the locomotive is there and no other session has its lock;
--- the locomotive stands then, with the functions that it had
+-- an emergency stop without functions is accepted if the locomotive is there and no other session has locked it;
+-- the locomotive stands then, with the functions as before
 abbrev pub StopsStop : Type 0
 StopsStop = (state : State) (session moment : ℕ) (drive : Drive) → drive.mode ≡ emergency_stop → drive.functions ≡ []
     → IsTrue (is_there (device_in Gl drive.bus drive.address) state)
@@ -84,7 +84,7 @@ StopsStop = (state : State) (session moment : ℕ) (drive : Drive) → drive.mod
     (GlState emergency_stop 0 drive.vmax (functions_of drive.bus drive.address state)))
     state (updated_all did.updates state)
 
--- an INIT that is accepted leaves a locomotive that has these parameters as it is; any other stands still, forward,
+-- an accepted INIT leaves a locomotive with these parameters unchanged; any other stands still, forward,
 -- with all functions off
 abbrev pub InitsStandStill : Type 0
 InitsStandStill = (state : State) (session moment : ℕ) (gl : NewGl)
@@ -102,7 +102,7 @@ abbrev pub has_lock : State → (session : ℕ) → DeviceGroup → (bus address
 has_lock state session group bus address =
     option_map_or (is_held_by session) (row_at (first_key (lock_on group bus address)) state) false
 
--- the lock that a command may take out: TERM of a lock does, and so do TERM and INIT of a device
+-- the lock that a command may take out: TERM of a lock takes out the lock, and so do TERM and INIT of the device
 abbrev pub may_unlock : Command → Option Device
 may_unlock (InitGl gl) = Some (lock_on Gl gl.bus gl.address)
 may_unlock (TermGl bus address) = Some (lock_on Gl bus address)
@@ -111,7 +111,7 @@ may_unlock (TermGa bus address) = Some (lock_on Ga bus address)
 may_unlock (TermLock target) = Some (lock_at target)
 may_unlock other = None
 
--- any other command of a session leaves the session its lock
+-- any other command of a session leaves the session's lock
 abbrev pub OwnLocksLast : Type 0
 OwnLocksLast = (state : State) (session moment : ℕ) (command : Command) (group : DeviceGroup) (bus address : ℕ)
     → IsTrue (has_lock state session group bus address) → may_unlock command ≢ Some (lock_on group bus address)
@@ -125,7 +125,7 @@ EndsChangeNoDevice = (buses : List Bus) (state : State) (session moment : ℕ) (
     → is_lock key.group ≡ false → key.group ≢ Session
     → IsKept key state (updated_all (freed state session moment) state)
 
--- nor a lock that another session has
+-- nor a lock of another session
 abbrev pub EndsKeepOtherLocks : Type 0
 EndsKeepOtherLocks = (buses : List Bus) (state : State) (session moment : ℕ) (group : DeviceGroup) (bus address : ℕ)
     → IsWhole buses state

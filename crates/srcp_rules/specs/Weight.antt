@@ -1,4 +1,4 @@
--- What the weight of a line says of the changes that the line brings.
+-- The weight of a line, and the changes that the line brings.
 use Rattle.std.specs.Prelude.{◌≡◌, ℕ, ◌≤◌, true, codes, List, ◌∷◌, length, Ok}
 use Rattle.srcp_text.specs.Words.{words_of, is_keyword}
 use Rattle.srcp_grammar.specs.declared.layout.Bus.{Bus}
@@ -9,7 +9,7 @@ use Rattle.srcp_grammar.specs.Weight.{most_changes, weight}
 use Rattle.srcp_rules.specs.State.{State}
 use Rattle.srcp_rules.specs.Effect.{effect}
 
--- a line that is a command brings at most its weight
+-- a line with a command brings at most as many changes as the line weighs
 abbrev pub LinesWeighEnough : Type 0
 LinesWeighEnough = (buses : List Bus) (state : State) (session moment : ℕ) (line : List ℕ) (command : Command)
     → IsLayout buses → reads buses line ≡ Ok command

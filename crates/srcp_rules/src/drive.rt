@@ -31,6 +31,7 @@ fn functions_of<R: Rows>(rows: &R, bus: u8, address: u32) -> Option<Bits>
     let row = rows.row(&key_at(locomotive, 1))?;
     match row.shown.value {
         Value::GlState { functions, .. } => Some(functions),
+        // No row of a locomotive at port 1 has another value.
         _ => Some(Bits::new()),
     }
 }
@@ -65,6 +66,7 @@ fn functions_to_drive<R: Rows>(rows: &R, session: u32, drive: &Drive) -> Result<
     if is_locked(rows, session, target) {
         return Err(Code::DEVICE_LOCKED);
     }
+    // Returned, so that SET looks the locomotive up once.
     Ok(before)
 }
 
@@ -115,6 +117,7 @@ fn port_end(moment: u64, on: bool, time: Option<u32>) -> Option<u64>
 {
     match time {
         Some(milliseconds) if on && milliseconds > 0 => {
+            // A time beyond the greatest moment ends at the greatest moment.
             Some(moment.saturating_add(u64::from(milliseconds)))
         }
         _ => None,

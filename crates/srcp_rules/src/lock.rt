@@ -84,6 +84,7 @@ pub(crate) fn set_lock<R: Rows>(rows: &mut R, sender: Sender, lock: TimedLock, o
         session: sender.session,
     };
     let due = lock_end(sender.moment, seconds);
+    // A lock that is there is replaced, which takes no memory: so no memory is refused.
     if is_there(rows, device) {
         return replace_row(rows, sender.moment, device.first_key(), value, due, obeyed);
     }

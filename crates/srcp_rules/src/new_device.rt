@@ -75,6 +75,7 @@ fn ga_rows(moment: u64, device: Device, letter: Letter) -> [Row; MOST_ROWS]
         (range_with_len 1 MOST_PORTS) }
 {
     [
+        // An array of the most rows: only `Rows::add` takes memory, so a refusal comes before any change.
         row_put(moment, key_at(device, 0), Value::GaInit { letter }, None),
         port_row(moment, device, 1),
         port_row(moment, device, 2),

@@ -22,6 +22,7 @@ pub fn due_next<R: Rows>(rows: &mut R, moment: u64, cursor: Cursor) -> Option<Ch
     ensures well_formed { IfSome result IsWellFormed }
     ensures adds_no_row { IfSome result (AddsNoRow (R.state rows.old)) }
 {
+    // A call carries out a single change. Each leaves the registry whole, so panels can be told between two.
     let row = rows.next_due(moment, cursor)?;
     Some(carry_out(rows, moment, &row))
 }

@@ -60,6 +60,7 @@ fn put(rows: &mut Vec<Row>, row: Row)
     match index_of(rows, &row.shown.key) {
         Ok(index) => rows[index] = row,
         Err(index) => {
+            // There is capacity, so no memory can be refused.
             let _ = rows.insert(index, row);
         }
     }

@@ -8,7 +8,7 @@ use Rattle.srcp_text.specs.Words.{words_of, IsWord}
 use Rattle.srcp_text.proofs.StampLaws.{decimal_word}
 use Rattle.srcp_text.proofs.WordLaws.{words_again}
 use Rattle.srcp_stations.specs.Said.{bracketed}
-use Rattle.srcp_stations.proofs.NumberLaws.{number_of-decimal}
+use Rattle.srcp_text.proofs.NumberLaws.{number_of-decimal}
 
 -- words that are joined by spaces between brackets are found again
 pub same_words : (ws vs : List (List ℕ)) → AllByRecursion IsWord ws → AllByRecursion IsWord vs → bracketed ws ≡ bracketed vs → ws ≡ vs

@@ -4,6 +4,5 @@ pub mod NoiseLaws
 pub mod NumberLaws
 pub mod ReadLaws
 pub mod SaidLaws
-pub mod ScanLaws
 pub mod TellLaws
 pub mod TextLaws

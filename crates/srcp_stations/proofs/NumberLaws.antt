@@ -1,13 +1,12 @@
 -- Laws of the numbers that messages and commands write.
-use Rattle.std.specs.Prelude.{◌≡◌, ℕ, ◌^◌, ◌≤◌, ◌<◌, true, false, List, ◌∷◌, length, Some}
+use Rattle.std.specs.Prelude.{◌≡◌, ℕ, ◌^◌, ◌≤◌, ◌<◌, true, false, List, ◌∷◌, length}
 use Rattle.std.specs.List.{list_any}
 use Rattle.std.specs.Char.{is_ascii_digit}
 use Rattle.std.specs.Fmt.{decimal}
 use Rattle.std.proofs.Common.{arith}
 use Rattle.std.proofs.lemmas.Bool.Decides.{nat_tests}
 use Rattle.std.proofs.lemmas.Fmt.{digits_decimal, length-decimal-le}
-use Rattle.srcp_text.specs.Words.{number_of}
-use Rattle.srcp_text.proofs.NumberLaws.{own, has_leading_zero-decimal, plain_number_of-decimal}
+use Rattle.srcp_text.proofs.NumberLaws.{own}
 use Rattle.srcp_text.proofs.StampLaws.{digits_free}
 use Rattle.srcp_stations.specs.Read.{is_space}
 
@@ -15,14 +14,10 @@ use Rattle.srcp_stations.specs.Read.{is_space}
 pub length_number : (n : ℕ) → n < 2 ^ 32 → length (decimal n) ≤ 10
 length_number n small = grind (arith, length-decimal-le)
 
--- a printed number is read as that number
-pub number_of-decimal : (max n : ℕ) → n ≤ max → n < 2 ^ 64 → number_of max (decimal n) ≡ Some n
-number_of-decimal max n le h = rw (has_leading_zero-decimal n h) at (plain_number_of-decimal max n le h)
-
 digit_no_space : (c : ℕ) → is_ascii_digit c ≡ true → is_space c ≡ false
 digit_no_space c h = grind (arith, nat_tests)
 
--- and has no space
+-- a printed number has no space
 pub decimal_no_space : (n : ℕ) → n < 2 ^ 64 → list_any is_space (decimal n) ≡ false
 decimal_no_space n h = digits_free is_space digit_no_space (decimal n) (digits_decimal own n h)
 

@@ -1,4 +1,4 @@
--- The law of a stream that a reader is fed in pieces.
+-- The law of a stream of bytes, fed to a reader in pieces.
 use Rattle.std.proofs.lemmas.Grind.{common_steps}
 use Rattle.std.specs.Prelude.{◌≡◌, ℕ, ◌+◌, ◌-◌, ◌<◌, ◌≤◌, List, [], ◌∷◌, ◌++◌, length, take, drop, Option, MatchOption, IfSome}
 use Rattle.std.specs.List.{concat, flat_map}

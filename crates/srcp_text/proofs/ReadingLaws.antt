@@ -1,4 +1,4 @@
--- Laws of what a reader of lines knows.
+-- Laws of the reading of a reader of lines.
 use Rattle.std.proofs.lemmas.Grind.{common_steps}
 use Rattle.std.specs.Prelude.{◌≡◌, ℕ, ◌+◌, ◌-◌, ◌<◌, ◌≤◌, false, List, [], ◌∷◌, ◌++◌, length, take, drop, get_or, IfSome, position}
 use Rattle.std.specs.Prelude.{slice_range, Option, Some, None}

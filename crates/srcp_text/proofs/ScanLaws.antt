@@ -1,4 +1,4 @@
--- Laws of the words of a line that is gone through from its front.
+-- Laws of the words of a line, from the line's front on.
 use Rattle.std.proofs.lemmas.Grind.{common_steps}
 use Rattle.std.specs.Prelude.{◌≡◌, ℕ, ◌+◌, ◌<◌, ◌≤◌, Bool, false, not, List, [], ◌∷◌, length, take, drop, get_or, position}
 use Rattle.std.specs.Prelude.{Option, Some, None}

@@ -1,6 +1,7 @@
 use Rattle.std.proofs.Common.{arith}
 use Rattle.std.specs.Fmt.{decimal}
-use Rattle.srcp_info.proofs.ScanLaws.{decimal_no_space, number_of-decimal}
+use Rattle.srcp_text.proofs.NumberLaws.{number_of-decimal}
+use Rattle.srcp_info.proofs.ScanLaws.{decimal_no_space}
 use Rattle.srcp_info.proofs.scan.next_number.Goals as goal
 
 pub returns : goal.returns

@@ -1,4 +1,4 @@
--- What each kind of step keeps, from the three laws of steps and from that of openings alone.
+-- The laws of each kind of step, from the three laws of steps and the law of openings alone.
 use Rattle.srcp_rules.specs.Laws.{AreOfStep, BeginningsCanBeTold, OpeningsAreWhole, StepsAddNoRow, StepsCanBeTold, StepsKeepWhole}
 use Rattle.srcp_rules.specs.Steps.{Step, Obeyed, Began, Moment, Ended, IsStepOf, IsTimely, updates_of}
 use Rattle.srcp_rules.proofs.Names

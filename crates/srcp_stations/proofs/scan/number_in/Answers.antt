@@ -1,5 +1,5 @@
 use Rattle.std.proofs.Common.{arith}
-use Rattle.srcp_stations.proofs.NumberLaws.{number_of-decimal}
+use Rattle.srcp_text.proofs.NumberLaws.{number_of-decimal}
 use Rattle.srcp_stations.proofs.scan.number_in.Goals as goal
 
 pub returns : goal.returns
