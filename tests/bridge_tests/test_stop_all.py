@@ -9,7 +9,7 @@ import time
 import types
 import unittest
 
-from .common import TOP, WAIT, Session, connects, free_port, rows, until
+from .common import TOP, WAIT, Session, Way, connects, free_port, rows, until
 from .phones import Phone
 from .stations import QUIET, StationCase
 from .test_dcc_ex import DccExCase
@@ -24,9 +24,9 @@ class StopAll(StationCase):
     """The table that both drivers pass. `stopped_by_hand` is the power after the stop button of a hand throttle."""
     stopped_by_hand = ""
 
-    def page(self):
+    def page(self, port=None):
         self.web = free_port()
-        self.site = self.starts("web.py", "--web", self.web)
+        self.site = self.starts("web.py", "--web", self.web, port=port)
         until(lambda: connects(self.web), "the page is there")
         page = Events(self.web)
         until(lambda: page.rows.get((1, "GL", 3, "does"), {}).get("v") == 14, "it shows the train")
@@ -98,35 +98,46 @@ class StopAll(StationCase):
             page.post("", "/stop")
 
     def test_a_page_that_stands_still_within_it(self):
-        """The rows come late, or never: nothing drives again meanwhile."""
-        page = self.page()
+        """Behind the STOP ALL, and before all rows. They come late, or never: nothing drives again meanwhile."""
+        way = Way(self.server)
+        self.addCleanup(way.end)
+        page = self.page(way.port)
         for number in (signal.SIGSTOP, signal.SIGKILL):
             self.many(page if number == signal.SIGSTOP else None)
             begun, log = len(self.station.log), self.station.log
+            way.last = b" POWER ON stop all\n"
             stop = threading.Thread(target=self.press, args=(page,), daemon=True)
+            loses, self.station.loses = self.station.loses, 0  # what is told first comes
             since = time.monotonic()
             stop.start()
             until(lambda: any(text in ("!", "0") for _, text in log[begun:]), "the stop comes")
+            self.station.loses = loses
             self.site.send(number)
             time.sleep(1)
             self.assertEqual(self.starts_since(since + 0.2), [])
             self.all_stand("all stand")
             if number == signal.SIGSTOP:
                 self.site.send(signal.SIGCONT)
+                way.free()
                 stop.join()
         until(lambda: all(row.split()[6] == "0" for row in rows(self.server.port) if row.startswith("100 INFO 1 GL")),
               "the rows say so")
 
     def test_a_command_behind_one_that_cut_the_power(self):
         """Another session has a locomotive locked. Who was to drive stands as the power comes back."""
-        page, other = self.page(), Session(self.server.port)
+        way = Way(self.server)
+        self.addCleanup(way.end)
+        page, other = self.page(way.port), Session(self.server.port)
         other.order("INIT 1 GL 5 N 1 28 0", "SET 1 LOCK GL 5 0", "SET 1 GL 5 1 9 28")
         until(lambda: page.rows.get((1, "GL", 5, "lock")), "the page shows the lock")
         replies = []
         stop = threading.Thread(target=lambda: replies.append(page.post("", "/stop")), daemon=True)
+        way.last = b"SET 1 GL 3 1 0 28\n"  # the page's last command to that one: what drives again it looks for later
         stop.start()
-        self.has("100 INFO 1 POWER OFF")
+        self.has("100 INFO 1 POWER OFF", "100 INFO 1 GL 3 1 0 28")
         self.throttle.order("SET 1 GL 3 1 15 28")
+        until(lambda: page.rows[1, "GL", 3, "does"]["v"] == 15, "the page shows it")
+        way.free()
         stop.join()
         self.assertEqual(replies, ["200 OK"])
         self.has("100 INFO 1 POWER OFF all stood", "100 INFO 1 GL 3 1 0 28")
