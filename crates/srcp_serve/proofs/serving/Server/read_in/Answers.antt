@@ -2,7 +2,7 @@ use Rattle.srcp_serve.proofs.Names.{Ok, Err, ap, arith, refl, [], ReadCall, lose
 use Rattle.srcp_serve.specs.declared.tally.Tally.{Tally}
 use Rattle.srcp_door.proofs.CallsAreFair.{fair_read}
 use Rattle.srcp_serve.proofs.DoorIsCalled.{none_failed, one_failed, calls_none, calls_one}
-use Rattle.srcp_serve.proofs.OneCallFollows.{read_not, read_other, read_bytes}
+use Rattle.srcp_serve.proofs.ReadsFollow.{read_not, read_other, read_bytes}
 use Rattle.srcp_serve.proofs.serving.Server.read_in.Goals as goal
 
 pub returns-then-not-ready-clause-course : goal.returns-then-not-ready-clause-course
@@ -11,7 +11,7 @@ returns-then-not-ready-clause-course g c = read_not _ _ _ _ _ c.ready.ensures c.
 pub returns-in-Ok-Bytes-clause-course : goal.returns-in-Ok-Bytes-clause-course
 returns-in-Ok-Bytes-clause-course g c =
     read_bytes _ _ _ _ _ c.ready.ensures c.in-Ok-Bytes.count c.read.new.buf _ _ _ _ c.if-not-ready.false (omega (arith, c.read.auto.buf))
-    (rw c.in-Ok-Bytes.field-0-is at c.in-Ok-Bytes.ensures.trace) c.receive.ensures.fault c.receive.ensures.received c.is_ok.ensures.value
+    (rw c.in-Ok-Bytes.field-0-is at c.in-Ok-Bytes.ensures.trace) c.receive.ensures.says c.receive.ensures.happened c.is_ok.ensures.value
 
 pub returns-in-Ok-Nothing-clause-course : goal.returns-in-Ok-Nothing-clause-course
 returns-in-Ok-Nothing-clause-course g c =
