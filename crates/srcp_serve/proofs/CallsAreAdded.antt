@@ -1,11 +1,9 @@
 -- What a door told and what the core counted, call after call.
-use Rattle.srcp_serve.proofs.Names.{◌≡◌, ◌∙◌, List, [], ◌∷◌, ◌++◌, map, Some, None, Result, refl, sym, ap, append_assoc, append-nil, ℕ}
+use Rattle.srcp_serve.proofs.Names.{◌≡◌, ◌∙◌, List, [], ◌∷◌, ◌++◌, map, Some, None, refl, sym, ap, append_assoc, append-nil, ℕ}
 use Rattle.srcp_serve.proofs.Names.{if◌then◌else◌, Bool, true, false, ◌==◌, ◌+◌, append_cancel_left, map-append, flat_map-append}
 use Rattle.srcp_serve.proofs.Names.{fold-append, Past, course_of, denied, happened, number, room_for, Event, Room, denied_by, none_denied}
 use Rattle.srcp_serve.proofs.Names.{DoorCall, Extends, Adds, Trace, Call, CountsRefusals, GivesUnlessCounted, answers_of, AddsGiven, Keys}
-use Rattle.srcp_serve.proofs.Names.{Makes, Went, rooms_of, DoorFault, Bus, counted, denied_in, denied_over, start}
-use Rattle.srcp_door.specs.Calls.{CloseCall}
-use Rattle.srcp_serve.specs.Visits.{Closes}
+use Rattle.srcp_serve.proofs.Names.{Makes, Went, rooms_of, Bus, counted, denied_in, denied_over, start}
 use Rattle.srcp_core.proofs.Agreement.RefusalsAreCounted.{denied_over_push}
 
 -- one call more
@@ -112,7 +110,3 @@ makes_then {xs = xs} {ys = ys} {old = old} {held = held} {new = new} is x y =
 -- no call
 pub makes_none : (trace_old : Trace) (trace : List DoorCall) (old : Past) → trace_old ≡ Some trace → Makes [] trace_old trace old old
 makes_none trace_old trace old is = record { adds = adds_none is; counted = refl }
-
-pub closes_by : (peer : ℕ) (answer : Result Unit DoorFault) (old new : Trace) → Extends old (CloseCall peer answer) new
-    → Closes peer old new
-closes_by peer answer old new h trace is = (CloseCall peer answer ∷ [], adds_one _ old new trace h is, (answer, refl))

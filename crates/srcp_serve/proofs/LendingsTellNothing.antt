@@ -138,9 +138,12 @@ module _ (buses : List Bus) where
   goes_on layout first (event ∷ events) v (inl e) =
       by (is_lending event events) refl (goes_on layout (first ++ event ∷ []) events)
     where
+      grown : List Event
+      grown = first ++ event ∷ []
+
       by : (t : Bool) → is_lending event events ≡ t
-          → ((u : World) → (without_numbers (course buses (first ++ event ∷ [])) ≡ without_numbers u) ⊎ IsLent (first ++ event ∷ []) events u
-          → without_numbers (fold (happens buses) (course buses (first ++ event ∷ [])) events)
+          → ((u : World) → (without_numbers (course buses grown) ≡ without_numbers u) ⊎ IsLent grown events u
+          → without_numbers (fold (happens buses) (course buses grown) events)
           ≡ without_numbers (fold (happens buses) u (without_lendings events)))
           → without_numbers (fold (happens buses) (happens buses (course buses first) event) events)
           ≡ without_numbers (fold (happens buses) v (if t then without_lendings events else event ∷ without_lendings events))
