@@ -1,6 +1,14 @@
-"""Plans with a drawing: over which elements each route leads, and which routes have a piece of track in common."""
+"""Plans with a drawing: over which elements each route leads, which routes have a piece of track in common, and which
+turnouts are found for a route that names its ends alone."""
+import random
+import sys
+from pathlib import Path
+
 from inputs import check_document
 from tables import fault_told, first_difference
+
+sys.path.insert(0, str(Path(__file__).resolve().parent.parent / "bridges"))
+from srcp_bridges.plan import plan as page  # noqa: E402
 
 
 def plan_of(drawing, legend, *routes):
@@ -88,10 +96,72 @@ route 3 conflicts with route 4: turnout 1 2, track in row 1 column 44
 """,
 }
 # Routes that the drawing of the station does not have.
-NOT_DRAWN = ("from = 'W'\nto = 'Pö'", "from = 'W'\nto = 'Pö'\nturnouts = [[1, 1, 1]]",
+NOT_DRAWN = ("from = 'W'\nto = 'Pö'\nturnouts = []", "from = 'W'\nto = 'Pö'\nturnouts = [[1, 1, 1]]",
              "from = 'W'\nto = 'E'\nturnouts = [[1, 1, 0], [1, 2, 0]]", "from = 'W'\nto = 'p1'\nturnouts = [[1, 1, 0]]",
              "from = 'West'\nto = 'Pö'\nturnouts = [[1, 1, 0]]", "from = 'W'\nto = 'W'\nturnouts = [[1, 1, 0]]",
              "from = 'Pö'\nto = 'Q'\nturnouts = [[1, 1, 0], [1, 2, 0]]")
+
+
+def legend_of(**kinds):
+    """A legend of elements of these kinds, each with the numbers or the text of its name."""
+    return "".join(f"{name} = {{ {kind} = {given!r} }}\n"
+                   for kind, names in kinds.items() for name, given in names.items())
+
+
+# Two throats of four tracks, a ladder of eight, and a crossover of one motor.
+THROATS = r"""                 /==b1===A1===sA1==\
+W===sW==b0==t1==t2==b2===A2===sA2==t5==t6==b9==sE==E
+              \                        /
+               t3===b3===A3===sA3===t7=
+                \                  /
+                 \==b4===A4===sA4=/
+""", legend_of(button={name: name for name in ("W", "E", "A1", "A2", "A3", "A4")},
+               turnout={f"t{number}": [1, number, 1] for number in (1, 2, 3, 5, 6, 7)},
+               sensor={f"b{number}": [1, number + 1] for number in (0, 1, 2, 3, 4, 9)},
+               signal={f"s{name}": [2, number, 2, 0]
+                       for number, name in enumerate(("W", "E", "A1", "A2", "A3", "A4"), 1)})
+LADDER = r"""L==s0==b0==t1==Y1
+            \
+             t2==Y2
+              \
+               t3==Y3
+                \
+                 t4==Y4
+                  \
+                   t5==Y5
+                    \
+                     t6==Y6
+                      \
+                       t7==Y7
+                        \
+                         \==Y8
+""", legend_of(button={"L": "Lead", **{f"Y{number}": f"Yard {number}" for number in range(1, 9)}},
+               turnout={"t1": [1, 1, 1], **{f"t{number}": [1, number, 0] for number in range(2, 8)}},
+               sensor={"b0": [1, 10]}, signal={"s0": [2, 1, 2, 0]})
+ONE_MOTOR = r"""A==b1==t1=======b2==C
+         \
+          \
+B==b3======t2===b4==D
+""", legend_of(button={name: name for name in "ABCD"}, turnout={"t1": [1, 1, 1], "t2": [1, 1, 1]},
+               sensor={f"b{number}": [1, number] for number in range(1, 5)})
+# The turnouts of routes that name their ends alone.
+ENDS = (
+    (STATION, {"W Pö": [[1, 1, 0]], "W Q": [[1, 1, 1]], "E Pö": [[1, 2, 1]], "Q E": [[1, 2, 0]]}),
+    (THROATS, {"W A1": [[1, 1, 0], [1, 2, 1]], "W A2": [[1, 1, 0], [1, 2, 0]], "A4 W": [[1, 3, 0], [1, 1, 1]],
+               "A3 E": [[1, 7, 0], [1, 6, 1]], "E A4": [[1, 6, 1], [1, 7, 1]], "A1 E": [[1, 5, 1], [1, 6, 0]]}),
+    (LADDER, {"L Y1": [[1, 1, 0]], "L Y3": [[1, 1, 1], [1, 2, 1], [1, 3, 0]],
+              "L Y7": [[1, 1, 1], [1, 2, 1], [1, 3, 1], [1, 4, 1], [1, 5, 1], [1, 6, 1], [1, 7, 0]],
+              "Y8 L": [[1, 7, 1], [1, 6, 1], [1, 5, 1], [1, 4, 1], [1, 3, 1], [1, 2, 1], [1, 1, 1]]}),
+    (ONE_MOTOR, {"A C": [[1, 1, 0]], "B D": [[1, 1, 0]], "A D": [[1, 1, 1]], "D A": [[1, 1, 1]]}),
+    (CROSSING, {"A D": [], "B C": []}))
+# Without its buttons the station has two ways from W to E.
+PASSING = STATION[0].replace("=Pö=", "====").replace("=Q=", "==="), "".join(
+    f"{line}\n" for line in STATION[1].splitlines() if not line.startswith(("'Pö'", "Q")))
+NO_ENDS = (
+    ("no track leads", STATION, ("W E", "Pö Q", "W p1", "W West")), ("no track leads", THROATS, ("A1 A2", "W E")),
+    ("no track leads", ONE_MOTOR, ("B C",)), ("no track leads", CROSSING, ("A C",)),
+    ("several tracks lead", PASSING, ("W E", "E W")))
+RANDOM = 400  # drawings at random
 
 
 def routes_of_drawings(program):
@@ -105,4 +175,87 @@ def routes_that_a_drawing_does_not_have(program):
                              fault_told("plan: route 1: no track leads over its turnouts")) for plan in plans)
 
 
-DRAWING_CASES = (routes_of_drawings, routes_that_a_drawing_does_not_have)
+def keys_of(ends, turnouts=None):
+    """The keys of a route by its two ends, and by its turnouts, if they are written out."""
+    begin, end = ends.split()
+    return f"from = '{begin}'\nto = '{end}'" + ("" if turnouts is None else f"\nturnouts = {turnouts}")
+
+
+def course(program, plan, count):
+    """What is ordered as each of these routes is set and given back, one after the other."""
+    lines = ["200 OK GO 2", *["200 OK"] * count]
+    for number in range(1, count + 1):
+        lines += [line for port in (1, 0) for line in (f"100 INFO 3 GA {number} {port} 1", *["200 OK"] * 20)]
+    return check_document(program, plan, ("interlock", "--plan"), "".join(f"1.000 {line}\n" for line in lines).encode())
+
+
+def routes_that_name_their_ends_alone(program):
+    """They are read as if the turnouts that the drawing has between them were written out. If no way or several lead
+    from one to the other, the plan is refused."""
+    for drawing, routes in ENDS:
+        alone = plan_of(*drawing, *map(keys_of, routes))
+        written = plan_of(*drawing, *(keys_of(ends, turnouts) for ends, turnouts in routes.items()))
+        told, *want = check_document(program, written, ("check", "--plan")), course(program, written, len(routes))
+        got = [check_document(program, alone, ("check", "--plan")), course(program, alone, len(routes))]
+        if got != [told, *want] or told[0]:
+            return f"{alone.decode()}: {got}, want {[told, *want]}"
+    return first_difference(
+        (plan, check_document(program, plan, ("check", "--plan")), fault_told(f"plan: route 1: {fault} to its end"))
+        for fault, drawing, ends in NO_ENDS for plan in (plan_of(*drawing, keys_of(each)) for each in ends))
+
+
+def random_drawing(draw):
+    """A drawing of tracks side by side with turnouts between them, and the names of its buttons. Some of the turnouts
+    have one motor."""
+    count, width = draw.randint(2, 4), draw.randint(2, 5)
+    cells = [list("= "[row % 2] * (width * 10 + 6)) for row in range(2 * count - 1)]
+    kinds = {"button": {}, "turnout": {}, "sensor": {}}
+
+    def put(row, column, name):
+        cells[row][column:column + len(name)] = name
+
+    for track in range(count):
+        for side, column in (("L", 0), ("R", width * 10 + 4)):
+            kinds["button"][f"{side}{track}"] = "an end"
+            put(2 * track, column, f"{side}{track}")
+    for place in range(width):
+        track, rises, column = draw.randrange(count - 1), draw.random() < 0.5, 6 + 10 * place
+        upper, lower = (column + 1, column - 2) if rises else (column - 2, column + 1)
+        put(2 * track + 1, column, "/" if rises else "\\")
+        for row, at, name in ((2 * track, upper, f"t{place}"), (2 * track + 2, lower, f"u{place}")):
+            put(row, at, name)
+            address = place + 1 if draw.random() < 0.3 else len(kinds["turnout"]) + 10
+            kinds["turnout"][name] = [1, address, draw.randint(0, 1)]
+        if draw.random() < 0.3:
+            name = f"m{place}"
+            kinds["button" if draw.random() < 0.5 else "sensor"][name] = [1, place + 1]
+            put(draw.randrange(count) * 2, column + 4, name)
+    kinds["button"] = {name: "a button" for name in kinds["button"]}
+    return ("\n".join("".join(row) for row in cells) + "\n", legend_of(**kinds)), [*kinds["button"]]
+
+
+def routes_of_random_drawings(program):
+    """The program finds the turnouts that the page finds, or tells the same fault."""
+    draw, met = random.Random(80), {"no track leads": 0, "several tracks lead": 0, "found": 0}
+    for _ in range(RANDOM):
+        drawing, buttons = random_drawing(draw)
+        ends = " ".join(draw.sample(buttons, 2))
+        plan = plan_of(*drawing, keys_of(ends) + "\nname = ''")
+        try:
+            [route] = page.plan_of(plan.decode()).routes
+        except ValueError as refused:
+            [fault] = [each for each in met if each in str(refused)] or [str(refused)]
+            got = check_document(program, plan, ("check", "--plan"))
+            want = fault_told(f"plan: route 1: {fault} to its end")
+        else:
+            fault = "found"
+            got = course(program, plan, 1)
+            want = course(program, plan_of(*drawing, keys_of(ends, route["turnouts"])), 1)
+        met[fault] = met.get(fault, 0) + 1
+        if got != want:
+            return f"{plan.decode()}: {got}, want {want}"
+    return None if min(met.values()) > RANDOM / 20 and len(met) == 3 else f"drawings of {met}"
+
+
+DRAWING_CASES = (routes_of_drawings, routes_that_a_drawing_does_not_have, routes_that_name_their_ends_alone,
+                 routes_of_random_drawings)

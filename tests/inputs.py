@@ -38,11 +38,11 @@ def unlike(what, got, want):
     return None if got == want else f"{what}: got {got!r}, want {want!r}"[:400]
 
 
-def check_document(program, document, words=("check", "--config")):
+def check_document(program, document, words=("check", "--config"), given=b""):
     with tempfile.NamedTemporaryFile() as file:
         file.write(document)
         file.flush()
-        return outcome(program, [*words, file.name])
+        return outcome(program, [*words, file.name], given)
 
 
 def fault_of_document(document):

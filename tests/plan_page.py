@@ -11,9 +11,10 @@ from page_tables import constants_of_the_code, quoted, rows_under
 TOP = Path(__file__).resolve().parent.parent
 PAGE = TOP / "docs" / "plan.md"
 BEGIN = "bus = 9\nroute = "
-# What stands before the plan in the row of a way.
-WAY = "plan: route 1: no track leads over its turnouts"
-DRAWN = 'plan = "A=t=B"\nlegend = {t = {turnout = [1, 12, 1]}}\n'
+# What stands before the plan in the rows of tracks.
+DRAWN = r'''plan = "A=t===u=B\n   \\=/"
+legend = {t = {turnout = [1, 12, 1]}, u = {turnout = [1, 13, 1]}}
+'''
 # The keys of the drawing, and those of the page: a value of another type is as if the key was left out.
 NEVER_OUT_OF_RANGE = {"plan", "legend", "from", "to", "turnout", "sensor", "button", "names", "functions", "name"}
 REFUSAL = "414 ERROR device locked"
@@ -44,7 +45,7 @@ def faults_of_the_plan_page(program: str) -> str | None:
     code has no other text, and no other key."""
     rows = [(quoted(text)[0], quoted(plan)[0]) for text, plan in rows_under("plan.md", "Faults")]
     for text, plan in rows:
-        document = ((DRAWN if text == WAY else "") + plan.replace("..", BEGIN)).encode()
+        document = ((DRAWN if "track" in text else "") + plan.replace("..", BEGIN)).encode()
         for word in ("check", "interlock"):
             got = check_document(program, document, (word, "--plan"))
             if got != (2, f"srcp_server: {text}\n".encode(), b""):

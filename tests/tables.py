@@ -74,7 +74,8 @@ REFUSED_PLANS = {
     b"bus = 9": "route missing",
     b"bus = 9\nroute = 1": "route out of range",
     b"bus = 9\n[route]\nnumber = 1": "route out of range",
-    A_DRAWING + b'from = "A", to = "B"}]': "route 1: no track leads over its turnouts",
+    A_DRAWING + b'from = "A", to = "B", turnouts = []}]': "route 1: no track leads over its turnouts",
+    A_DRAWING + b'from = "A", to = "C"}]': "route 1: no track leads to its end",
     A_DRAWING + b'from = "A", to = "C", turnouts = [[1, 12, 0]]}]': "route 1: no track leads over its turnouts",
 }
 REFUSED_ROUTES = {
@@ -128,6 +129,7 @@ REFUSED_ROUTES = {
 PRINTED_PLANS = {
     A_DRAWING + b'from = "A", to = "B", turnouts = [[1, 12, 0]]}]': "bus 9\nroute 1 over t B",
     A_DRAWING + b'from = "B", to = "A", turnouts = [[1, 12, 0]]}]': "bus 9\nroute 1 over t A",
+    A_DRAWING + b'from = "A", to = "B"}]': "bus 9\nroute 1 over t B",
     A_DRAWING + b'from = "A"}]': "bus 9\nroute 1",
     b'bus = 9\nplan = 1\nroute = [{number = 1, name = "West", from = "W"}]': "bus 9\nroute 1",
     b"bus = 9\nroute = [{number = 3, delay = 600, approach = [[1, 4096]]}]": "bus 9\nroute 3",

@@ -220,7 +220,8 @@ class Way:
 
     `cut` closes them in the middle of a line and holds new ones back until `free`. Command sessions are passed on as
     they are. `listed`: this number of bytes of a listing passes, and half a second later the panel is cut. `late`: a
-    panel's lines from this text on pass only after `free`. `shut` holds new connections back until `free`.
+    panel's lines from this text on pass only after `free`. `last`: once a client has sent this text, what the client
+    sends and is sent behind the text passes only after `free`. `shut` holds new connections back until `free`.
     """
 
     def __init__(self, server):
@@ -262,6 +263,7 @@ class Way:
                     while self.late is late:
                         time.sleep(0.01)
                     more = more[begin:]
+                self.waits(client)
                 client.sendall(more)
                 passed += len(more)
                 if cuts and passed >= self.listed:
@@ -278,10 +280,20 @@ class Way:
                 if b"INFO" in more and b"MODE" in more:
                     self.panels.append(client)
                     self.open.wait()
+                if self.last and self.last in more:
+                    begin = more.index(self.last) + len(self.last)
+                    self.held.add(client)
+                    upstream.sendall(more[:begin])
+                    self.waits(client)
+                    more = more[begin:]
                 upstream.sendall(more)
         except OSError:
             pass
         self.close(client, upstream)
+
+    def waits(self, client):
+        while client in self.held:
+            time.sleep(0.01)
 
     def close(self, *ends):
         for end in ends:
@@ -304,7 +316,8 @@ class Way:
         self.enter.clear()
 
     def free(self):
-        self.late = None
+        self.late = self.last = None
+        self.held = set()
         self.open.set()
         self.enter.set()
 

@@ -68,6 +68,15 @@ class DccExLastWords(LastWords, DccExCase):
 
 
 class Z21LastWords(LastWords, Z21Case):
+    def test_words_of_which_the_first_are_lost(self):
+        self.station.loses, hears, lost = 0, self.station.hears, []
+        stops = bytes((6, 0, 0x40, 0, 0x80, 0x80))
+        self.station.hears = lambda client, datagram: (
+            lost.append(datagram) if stops in datagram and len(lost) < 3 else hears(client, datagram))
+        self.driver.end(signal.SIGKILL)
+        self.is_stopped()
+        self.assertEqual(len(lost), 3)
+
     def test_what_is_removed_while_there_is_no_driver(self):
         """The station keeps speeds while its power is off, and who comes then knows nothing of that locomotive. One of
         them a hand throttle drove, and one is the last of many."""

@@ -102,7 +102,7 @@ class Plans(unittest.TestCase):
         return plan_of("\n".join([f"plan = '''\n{text}\n'''", "[legend]", *entries])).drawing
 
     def test_what_the_page_is_sent(self):
-        names, functions, drawing = plan_of(PLAN)
+        names, functions, drawing, _ = plan_of(PLAN)
         self.assertEqual((names, functions), ({"1 GL 3": "V 100"}, {"1 GL 3": ["Light", "Whistle"]}))
         self.assertEqual((drawing["width"], drawing["height"], drawing["bus"]), (28, 3, 3))
         of = {element["name"]: element for element in drawing["elements"]}
@@ -149,10 +149,24 @@ class Plans(unittest.TestCase):
         flat = cross.replace("a=\\ /=b\n   +\nc=/ \\=d", "    /=b\na==+==d\nc=/   ")
         plan_of(flat + route.format(1, "a", "d") + route.format(2, "c", "b"))
         for text, end in [(cross, "b"), (cross, "c"), (flat, "b"), (flat, "c")]:
-            with self.assertRaisesRegex(ValueError, f"line 12: no track leads from a to {end}"):
+            with self.assertRaisesRegex(ValueError, f"line 16: no track leads from a to {end} past no button"):
                 plan_of(text + route.format(1, "a", end))
         [y, *_] = self.of("    /=\n ==y\n    \\=", "y = { turnout = [1, 1, 1] }")["elements"]
         self.assertEqual(y["ends"], [(5.0, 0.5), (5.0, 2.5)])
+
+    def test_routes_that_name_their_ends_alone(self):
+        """They have the turnouts of the only way that passes no button, as if these were written out."""
+        loop = "turnouts = [[1, 1, 1], [1, 2, 0]]\n"
+        fault = "line 35: several tracks lead from E to W past no button: name the turnouts of route 2"
+        with self.assertRaises(ValueError, msg=fault) as met:
+            plan_of(PLAN.replace(loop, ""))
+        self.assertIn(fault, str(met.exception))
+        halt = PLAN.replace("===b2===", "=P=b2===").replace("[legend]", "[legend]\nP = { button = \"Halt\" }")
+        for begin, turnouts in ("E", [[1, 2, 0], [1, 1, 1]]), ("P", [[1, 1, 0]]):
+            text = halt.replace(loop, "").replace('from = "E"', f'from = "{begin}"')
+            found = plan_of(text)
+            self.assertEqual(found.routes[1]["turnouts"], turnouts)
+            self.assertEqual(found.drawing, plan_of(text + f"turnouts = {turnouts}\n").drawing)
 
     def test_to_which_side_signals_are_passed(self):
         """As their routes pass them, or as the legend says. One that is passed to both sides has no direction."""
@@ -186,7 +200,7 @@ class Plans(unittest.TestCase):
     def test_the_example(self):
         """It has four routes, and all that it names is in the layout beside it."""
         text, layout = ((TOP / "examples" / name).read_text() for name in ("plan.toml", "layout.toml"))
-        names, functions, drawing = plan_of(text)
+        names, functions, drawing, _ = plan_of(text)
         buses = {bus["number"]: bus for bus in tomllib.loads(layout)["bus"]}
         keys = [each["key"] for each in drawing["elements"] if "key" in each] + [*names, *functions]
         keys += [f"{drawing['bus']} {group} {route['number']}" for route in drawing["routes"] for group in ("GA", "FB")]

@@ -9,8 +9,8 @@ import time
 import types
 import unittest
 
-from .common import TOP, WAIT, Session, connects, free_port, rows, until
-from .phones import Phone
+from .common import TOP, WAIT, Session, Way, connects, free_port, rows, until
+from .phones import Panel, Phone
 from .stations import QUIET, StationCase
 from .test_dcc_ex import DccExCase
 from .test_web import Events
@@ -24,9 +24,9 @@ class StopAll(StationCase):
     """The table that both drivers pass. `stopped_by_hand` is the power after the stop button of a hand throttle."""
     stopped_by_hand = ""
 
-    def page(self):
+    def page(self, port=None):
         self.web = free_port()
-        self.site = self.starts("web.py", "--web", self.web)
+        self.site = self.starts("web.py", "--web", self.web, port=port)
         until(lambda: connects(self.web), "the page is there")
         page = Events(self.web)
         until(lambda: page.rows.get((1, "GL", 3, "does"), {}).get("v") == 14, "it shows the train")
@@ -98,35 +98,46 @@ class StopAll(StationCase):
             page.post("", "/stop")
 
     def test_a_page_that_stands_still_within_it(self):
-        """The rows come late, or never: nothing drives again meanwhile."""
-        page = self.page()
+        """Behind the STOP ALL, and before all rows. They come late, or never: nothing drives again meanwhile."""
+        way = Way(self.server)
+        self.addCleanup(way.end)
+        page = self.page(way.port)
         for number in (signal.SIGSTOP, signal.SIGKILL):
             self.many(page if number == signal.SIGSTOP else None)
             begun, log = len(self.station.log), self.station.log
+            way.last = b" POWER ON stop all\n"
             stop = threading.Thread(target=self.press, args=(page,), daemon=True)
+            loses, self.station.loses = self.station.loses, 0  # what is told first comes
             since = time.monotonic()
             stop.start()
             until(lambda: any(text in ("!", "0") for _, text in log[begun:]), "the stop comes")
+            self.station.loses = loses
             self.site.send(number)
             time.sleep(1)
             self.assertEqual(self.starts_since(since + 0.2), [])
             self.all_stand("all stand")
             if number == signal.SIGSTOP:
                 self.site.send(signal.SIGCONT)
+                way.free()
                 stop.join()
         until(lambda: all(row.split()[6] == "0" for row in rows(self.server.port) if row.startswith("100 INFO 1 GL")),
               "the rows say so")
 
     def test_a_command_behind_one_that_cut_the_power(self):
         """Another session has a locomotive locked. Who was to drive stands as the power comes back."""
-        page, other = self.page(), Session(self.server.port)
+        way = Way(self.server)
+        self.addCleanup(way.end)
+        page, other = self.page(way.port), Session(self.server.port)
         other.order("INIT 1 GL 5 N 1 28 0", "SET 1 LOCK GL 5 0", "SET 1 GL 5 1 9 28")
         until(lambda: page.rows.get((1, "GL", 5, "lock")), "the page shows the lock")
         replies = []
         stop = threading.Thread(target=lambda: replies.append(page.post("", "/stop")), daemon=True)
+        way.last = b"SET 1 GL 3 1 0 28\n"  # the page's last command to that one: what drives again it looks for later
         stop.start()
-        self.has("100 INFO 1 POWER OFF")
+        self.has("100 INFO 1 POWER OFF", "100 INFO 1 GL 3 1 0 28")
         self.throttle.order("SET 1 GL 3 1 15 28")
+        until(lambda: page.rows[1, "GL", 3, "does"]["v"] == 15, "the page shows it")
+        way.free()
         stop.join()
         self.assertEqual(replies, ["200 OK"])
         self.has("100 INFO 1 POWER OFF all stood", "100 INFO 1 GL 3 1 0 28")
@@ -160,6 +171,47 @@ class StopAll(StationCase):
         until(lambda: page.rows[1, "POWER", 0, "does"]["text"] == "all stood", "the driver has confirmed it")
         until(lambda: page.stood == [], "pages are told that all stood")
         return page
+
+    def test_a_station_that_hangs_while_all_stand(self):
+        """Nobody has to confirm a stop then. The station has to answer nonetheless: a hand may drive there."""
+        page = self.page_of_a_driver()
+        self.hangs()
+        time.sleep(0.1)
+        self.assertEqual(page.post("", "/stop"), UNSURE)
+        self.hangs()
+        self.has("100 INFO 1 POWER ON all stood")
+
+    def test_one_that_does_not_confirm_its_stop(self):
+        """The station answers, and drives on: it is never told that all stood. Once it makes an emergency stop too."""
+        self.restarts("--silence", 1000)
+        for stops in ([], ["SET 1 GL 3 2 0 28"]):
+            self.drives()
+            panel = Panel(self.server.port)
+            self.goes_deaf(True)
+            self.throttle.order(*stops, "SET 1 POWER ON stop all")
+            self.has("100 INFO 1 POWER ON does not confirm: 3")
+            time.sleep(3 * QUIET)
+            self.assertEqual((panel.told("100 INFO 1 POWER ON all stood"), self.station.cabs[3]), ([], (63, 1)))
+            self.goes_deaf(False)
+            self.has("100 INFO 1 POWER ON all stood")
+            self.track(lambda s: s.cabs[3][0] <= 0, "it stands")
+
+    def test_what_was_commanded_just_before_it_as_the_panel_was_lost(self):
+        """The listing tells the STOP ALL first, and that command behind it. Its holder has it locked."""
+        self.restarts("--patience", WAIT)
+        other = Session(self.server.port)
+        other.order("SET 1 LOCK GL 3 0")
+        self.way.cut()
+        other.order("SET 1 GL 3 1 20 28")
+        self.throttle.order("SET 1 POWER ON stop all")
+        begun = time.monotonic()
+        self.way.free()
+        self.has("100 INFO 1 POWER ON all stood")
+        time.sleep(3 * QUIET)
+        self.assertEqual(self.starts_since(begun), [])
+        self.assertLessEqual(self.station.cabs[3][0], 0)
+        other.order("SET 1 GL 3 1 14 28")
+        self.track(lambda s: s.cabs[3] == (63, 1), "commanded anew")
 
     def test_who_switches_the_power_off_meanwhile_confirms_nothing(self):
         """The driver sleeps: its station has power, and drives."""
@@ -278,6 +330,23 @@ class StopAll(StationCase):
 class DccExStopAll(StopAll, DccExCase):
     stopped_by_hand = "ON"
 
+    def goes_deaf(self, is_deaf):
+        """Has the station hear questions alone."""
+        from simulated_station import QUESTIONS
+        obey = type(self.station).obey.__get__(self.station)
+        self.station.obey = lambda name, *words: is_deaf and name not in QUESTIONS or obey(name, *words)
+
+    def test_what_the_registry_does_not_have_though_the_stop_was_lost(self):
+        """A hand drives it, and the server does not make it. All are told to stop until it stands."""
+        self.station.hand(10240, speed=40)
+        until(lambda: "locomotive 10240, which a hand throttle drives" in self.driver.told(), "the driver has heard it")
+        take, lost = self.station.take, []
+        self.station.take = lambda command: (
+            lost.append(command) if command == b"<!" and len(lost) < 3 else take(command))
+        self.throttle.order("SET 1 POWER ON stop all")
+        self.track(lambda s: s.cabs[10240][0] <= 0, "it stands")
+        self.has("100 INFO 1 POWER ON all stood")
+
     def answers_in_vain(self, times):
         answer, lost = type(self.station).answer.__get__(self.station), []
         self.station.answer = lambda name, *words: (
@@ -286,6 +355,9 @@ class DccExStopAll(StopAll, DccExCase):
 
 class Z21StopAll(StopAll, Z21Case):
     stopped_by_hand = "OFF"  # it drives nothing until its power is switched on
+
+    def goes_deaf(self, is_deaf):
+        self.station.deaf = is_deaf
 
     def answers_in_vain(self, times):
         say, lost = type(self.station).say_bus.__get__(self.station), []

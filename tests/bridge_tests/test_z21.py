@@ -202,6 +202,22 @@ class Z21WithLosses(Losses, Z21Case):
         self.assertEqual(self.driver.told().count("has forgotten this program"), told)
         self.assertEqual((self.station.power, self.station.cabs[3]), (1, (63, 1)))
 
+    def test_a_speed_that_comes_behind_its_stop(self):
+        """As a datagram may. No hand has done that: it is told to stand again, and its row stays."""
+        self.station.loses, take, late = 0, self.station.take, []
+        self.station.take = lambda header, data: (
+            late.append(data) or True if data[:1] == b"\xe4" and not late else take(header, data))
+        self.throttle.order("SET 1 GL 3 1 20 28")
+        until(lambda: late, "the speed is on its way")
+        self.throttle.order("SET 1 GL 3 1 0 28")
+        self.track(lambda s: s.cabs[3] == (0, 1), "it stands")
+        with self.station.trouble.giving:
+            take(0x40, late[0])
+        self.assertGreater(self.station.moves[-1][2], 0)
+        time.sleep(3 * QUIET)
+        self.assertEqual(self.station.cabs[3], (0, 1))
+        self.has("100 INFO 1 GL 3 1 0 28")
+
     def test_a_station_that_programs_a_decoder(self):
         """Power counts as off. The station is told nothing that would end the programming, until somebody does."""
         self.station.program()

@@ -55,8 +55,7 @@ class RoutePlan:
             document: dict[str, Any] = tomllib.loads(Path(path).read_text("utf-8"))
         except ValueError as fault:  # the program takes a mark of the byte order before it
             raise Wrong(f"--plan {path}: {fault}") from None
-        read_plan(path)
-        routes, self.bus = document.get("route", []), document["bus"]
+        routes, self.bus = read_plan(path).routes, document["bus"]
         self.names: dict[int, str] = {route["number"]: str(route.get("name", "")) for route in routes}
         self.turnouts: dict[int, set[Accessory]] = {
             route["number"]: {(bus, address) for bus, address, _ in route.get("turnouts", [])} for route in routes}

@@ -14,16 +14,18 @@ KEYS = ("bus", "plan", "legend", "names", "functions", "route")
 
 
 class Plan(NamedTuple):
-    """What the file has. `drawing` is what the page draws, or None if there is no plan in it."""
+    """What the file has. `drawing` is what the page draws, or None if there is no plan in it. `routes` has the keys of
+    each route, with the turnouts that were found in the drawing."""
     names: dict[str, str]
     functions: dict[str, list[str]]
     drawing: dict[str, Any] | None
+    routes: list[dict[str, Any]]
 
 
 def read_plan(path: str | None) -> Plan:
     """Returns what a file says."""
     if not path:
-        return Plan({}, {}, None)
+        return Plan({}, {}, None, [])
     try:
         with open(path, "rb") as file:
             return plan_of(file.read().decode())
@@ -49,7 +51,8 @@ def plan_of(content: str) -> Plan:
         if not isinstance(labels, list) or not all(isinstance(label, str) for label in labels):
             raise Fault(lines.of("functions", device), f"{device}: the labels of F0, F1 .. are a list of texts")
     names = {device: " ".join(name.split()) for device, name in document.get("names", {}).items()}
-    return Plan(names, functions, drawing_of(document, lines) if "plan" in document else None)
+    drawing = drawing_of(document, lines) if "plan" in document else None
+    return Plan(names, functions, drawing, document.get("route", []))
 
 
 def drawing_of(document: dict[str, Any], lines: Lines) -> dict[str, Any]:

@@ -5,6 +5,7 @@ from srcp_bridges.limits import GREATEST_BUS, GREATEST_GA, LONGEST_DELAY
 from srcp_bridges.plan.drawing import TO_THE_RIGHT, Fault, Node
 from srcp_bridges.plan.elements import ACCESSORIES, BUSES, LEFT, PORTS, RIGHT, SENSORS, TURNOUT, Elements, is_within
 from srcp_bridges.plan.lines import Lines
+from srcp_bridges.plan.search import turnouts_between
 from srcp_bridges.plan.tracks import Ways, leaves, way
 
 KEYS = ("number", "name", "from", "to", "turnouts", "blocks", "signal", "frees", "sections", "approach", "delay")
@@ -53,7 +54,8 @@ def check_route(index: int, given: dict[str, Any], own: object, lines: Lines) ->
 
 
 class Routes:
-    """Reads the routes of a document whose drawing has these elements. Their words are those of routes."""
+    """Reads the routes of a document whose drawing has these elements. Their words are those of routes. A route that
+    names its ends alone is given the turnouts that the drawing has between them."""
 
     def __init__(self, document: dict[str, Any], lines: Lines, elements: Elements, ways: Ways):
         self.lines = lines
@@ -68,6 +70,8 @@ class Routes:
         told: list[dict[str, Any]] = []
         for index, given in enumerate(self.given):
             self.check(index, given)
+            if "turnouts" not in given:
+                given["turnouts"] = self.find(index, given)
             for before in told:
                 if before["number"] == given["number"]:
                     raise self.wrong(index, "number", f"there is a route {given['number']} already")
@@ -93,6 +97,17 @@ class Routes:
         turnouts = given.get("turnouts", [])
         if not isinstance(turnouts, list) or not all(is_within(each, TURNOUT) for each in turnouts):
             raise self.wrong(index, "turnouts", "the turnouts of a route are a list of [bus, address, port]")
+
+    def find(self, index: int, given: dict[str, Any]) -> list[list[int]]:
+        """Returns the turnouts of a route that names its ends alone."""
+        begin, end = (self.elements.named[given[key]].node for key in ("from", "to"))
+        match turnouts_between(self.ways, self.elements, begin, end):
+            case [ports]:
+                return [[bus, address, port] for (bus, address), port in ports.items()]
+            case found:
+                leads = "several tracks lead" if found else "no track leads"
+                raise self.wrong(index, "to", f"{leads} from {begin.text} to {end.text} past no button: name the "
+                                 f"turnouts of route {given['number']}")
 
     def way(self, index: int, given: dict[str, Any]) -> dict[str, Any]:
         """Returns the tracks of a route, and what it shares with a route that crosses it or ends where it does."""

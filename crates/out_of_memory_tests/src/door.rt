@@ -3,7 +3,7 @@ ghost use Rattle.srcp_door.specs.Calls.{one_more};
 
 use crate::calls::one_bus;
 use crate::outcome::{Outcome, Refused};
-use srcp_core::Core;
+use srcp_core::LoggedCore;
 use srcp_rules::Nested;
 use srcp_serve::{Door, DoorFault, Got, Served, serve as serve_turns};
 use std::alloc::Global;
@@ -50,7 +50,7 @@ impl Door for TwoPeers {
 /// other peer is served.
 pub(crate) fn serve(alloc: Global) -> Result<Outcome, Refused> {
     let layout = one_bus(alloc)?;
-    let mut core = Core::<Nested>::new(alloc, &layout, 0, 0)?;
+    let mut core = LoggedCore::<Nested>::new(alloc, &layout)?;
     let mut door = TwoPeers { came: 0, closed: 0 };
     let served = serve_turns(&mut core, &mut door, 3);
     let opened = served.opened;

@@ -15,11 +15,11 @@ told_by text = change_from (words_of (take (length text - 1) text))
 
 -- the change of the line, or the one that is kept
 abbrev pub change_of : Held → Change
-change_of (held.Line bytes len) = told_by (take len bytes)
+change_of (held.Line len bytes) = told_by (take len bytes)
 change_of (held.Change change) = change
 
 -- a line is that of its change, which is well-formed
 abbrev pub IsLine : Held → Type 0
-IsLine (held.Line bytes len) =
+IsLine (held.Line len bytes) =
     (take len bytes ≡ line (told_by (take len bytes))) × IsWellFormed (told_by (take len bytes)) × (len ≤ LINE_CAPACITY)
 IsLine (held.Change change) = Unit {0}

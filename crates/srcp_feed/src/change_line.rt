@@ -47,7 +47,7 @@ impl<'a> ChangeLine<'a> {
         ChangeLine {
             change,
             waiting: Waiting {
-                held: Held::Line { bytes, len },
+                held: Held::Line { len, bytes },
             },
         }
     }
@@ -89,10 +89,10 @@ pub struct Waiting {
 #[derive(Drop)]
 enum Held {
     // The first `len` bytes are the line. A slot of the queue is copied for each panel, and a plain array is copied by
-    // a few moves, where an `ArrayVec` is copied byte by byte.
+    // a few moves, where an `ArrayVec` is copied byte by byte. With `len` in front the moves are of 16 bytes each.
     Line {
-        bytes: [u8; LINE_CAPACITY],
         len: usize,
+        bytes: [u8; LINE_CAPACITY],
     },
     Change(Change),
 }
@@ -115,9 +115,9 @@ impl Waiting {
         ensures { result ≡ self.now }
     {
         let held = match &self.held {
-            Held::Line { bytes, len } => Held::Line {
-                bytes: *bytes,
+            Held::Line { len, bytes } => Held::Line {
                 len: *len,
+                bytes: *bytes,
             },
             Held::Change(change) => Held::Change(*change),
         };
@@ -129,7 +129,7 @@ impl Waiting {
         ensures { result ≡ self.now }
     {
         match &self.held {
-            Held::Line { bytes, len } => {
+            Held::Line { len, bytes } => {
                 let line = &bytes[..*len];
                 match read_change(&line[..line.len() - 1]) {
                     Some(change) => change,
@@ -147,9 +147,15 @@ impl Waiting {
         ensures most { array_vec_len to.new ≤ LONGEST_LINE }
     {
         match &self.held {
-            Held::Line { bytes, len } => {
-                *to = InfoLine::new();
-                to.try_extend_from_slice(&bytes[..*len]).unwrap();
+            Held::Line { len, bytes } => {
+                let line = &bytes[..*len];
+                if to.len() == line.len() {
+                    // Lines of one device are mostly as long as the line before. `new` would set all bytes to 0.
+                    to.as_mut_slice().copy_from_slice(line);
+                } else {
+                    *to = InfoLine::new();
+                    to.try_extend_from_slice(line).unwrap();
+                }
             }
             Held::Change(change) => {
                 *to = InfoLine::new();

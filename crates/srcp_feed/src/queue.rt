@@ -13,21 +13,23 @@ use std::marker::Model;
 /// Holds the waiting changes, in the order of their coming, each with its line. Contracts see the list of the changes.
 #[derive(Drop)]
 pub(crate) struct Queue {
-    // The ring goes round through all slots, with some 6 cache misses a line. A queue that begins again at its first
-    // slot has 3, and 7 instructions less: too little for a queue of our own.
+    // The first `given` changes of the ring were dropped. They go once none waits behind them, all at once, since the
+    // ring then begins again at its first slot: a ring that goes round through all slots misses the cache at each.
     ring: HeapCircularBuffer<Waiting>,
+    given: usize,
 }
 
 impl Model for Queue {
-    ghost use Rattle.std.specs.Prelude.{◌≡◌, ◌≤◌, List, length};
+    ghost use Rattle.std.specs.Prelude.{◌≡◌, ◌≤◌, List, drop, length};
     ghost use Rattle.srcp_info.specs.declared.change.Change.{Change};
     ghost use Rattle.srcp_info.specs.declared.limits.TheConstants.{MOST_WAITING};
 
     ghost Value = { List Change };
 
-    ghost view = { λ q. q.ring.items };
+    ghost view = { λ q. drop q.given q.ring.items };
 
-    ghost invariant = { λ q. (q.ring.capacity ≡ MOST_WAITING) × (length q.ring.items ≤ MOST_WAITING) };
+    ghost invariant = { λ q. (q.ring.capacity ≡ MOST_WAITING) × (length q.ring.items ≤ MOST_WAITING)
+        × (q.given ≤ length q.ring.items) };
 }
 
 impl Queue {
@@ -40,6 +42,7 @@ impl Queue {
     {
         Ok(Queue {
             ring: HeapCircularBuffer::with_capacity(alloc, MOST_WAITING)?,
+            given: 0,
         })
     }
 
@@ -48,14 +51,14 @@ impl Queue {
         ensures value { result ≡ length self.now }
         ensures most { result ≤ MOST_WAITING }
     {
-        self.ring.len()
+        self.ring.len() - self.given
     }
 
     /// Lends the first change, or `None` if no change waits.
     pub(crate) fn first(&self) -> Option<&Waiting>
         ensures { option_copied result ≡ slice_get self.now 0 }
     {
-        self.ring.front()
+        self.ring.get(self.given)
     }
 
     /// Appends a copy of a change, or returns false if `MOST_WAITING` changes wait already.
@@ -63,6 +66,10 @@ impl Queue {
         ensures fits { result ≡ nat_lt (length self.old) MOST_WAITING }
         ensures queue { self.new ≡ (if result then self.old ++ change.now ∷ [] else self.old) }
     {
+        if self.ring.is_full() {
+            self.ring.truncate_front(self.ring.len() - self.given);
+            self.given = 0;
+        }
         // The answer also tells of an overrun, and the compiler writes the line straight into its slot. `push_back`
         // takes seven instructions more for each line.
         self.ring.try_push_back(change.copied()).is_ok()
@@ -73,6 +80,10 @@ impl Queue {
         requires { 0 < length self.old }
         ensures { self.new ≡ drop 1 self.old }
     {
-        self.ring.pop_front();
+        self.given += 1;
+        if self.given == self.ring.len() {
+            self.ring.clear();
+            self.given = 0;
+        }
     }
 }

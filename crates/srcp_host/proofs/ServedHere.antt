@@ -21,7 +21,7 @@ pub served_here : {Clock Opener X : Type 0} (result : Result X HostFault) (file 
 served_here (Ok hosted) file turns old new served system log s = record {
   config = s.config;
   opened = s.opened;
-  held = s.held;
+  core = s.core;
   says = s.asked.says;
   is_open = s.asked.answered;
   counted = s.counted;

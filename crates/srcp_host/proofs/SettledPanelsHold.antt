@@ -15,7 +15,6 @@ use Rattle.srcp_core.specs.declared.record.CoreFault.{CoreFault}
 use Rattle.srcp_core.proofs.CourseLaws.EventsKeep.{IsAnswered, kept_fed, kept_shut}
 use Rattle.srcp_core.specs.Laws.{AllMoments, HasMoment}
 use Rattle.srcp_core.proofs.CourseLaws.EveryCourse.{told_rightly}
-use Rattle.srcp_rules.specs.State.{shown_rows}
 use Rattle.srcp_serve.specs.Serving.{events_of, stand_after, taken as given_taken}
 use Rattle.srcp_peers.specs.Accounts.{account}
 use Rattle.srcp_peers.specs.Streams.{taken, taken_in, took}
@@ -109,9 +108,10 @@ settled_panels_hold buses count opens log old core layout fits served k conn soc
     subst (λ (xs : List ℕ). length xs ≤ length (took socket log)) (taken_is socket log ∙ sym is_sent)
     (subst (λ (xs : List ℕ). length (account socket log).sent.written ≤ length xs) (took_is socket log) long) in
     let parts = and_parts (is_open conn) _ settled in
+    let same : course core.buses core.events ≡ w = rw (given.course.layout, given.course.events) refl in
     let told = told_rightly buses layout events (suc k) conn (record { there = here; info = (and_parts conn.info _ parts.1).0 }) in
     record {
       all = whole (sent conn) (took socket log) starts is_long;
-      client = (told.1 (all_moments buses events start (subst IsMoment given.course.stands.moment fits))).registry settled;
-      registry = ap shown_rows (sym given.course.stands.rows);
+      client = (told.1 (all_moments buses events start (rw same at fits))).registry settled;
+      registry = rw (same, given.course.layout) refl;
     }

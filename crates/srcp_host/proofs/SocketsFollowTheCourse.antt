@@ -7,7 +7,7 @@ use Rattle.std.proofs.lemmas.List.{get_or_default, length-map}
 use Rattle.std.proofs.Math.ListN.{get_or-map}
 use Rattle.srcp_core.specs.Connection.{Connection, sent}
 use Rattle.srcp_core.specs.Course.{course}
-use Rattle.srcp_core.specs.Held.{Held}
+use Rattle.srcp_core.specs.Past.{Past}
 use Rattle.srcp_log.specs.Names.{IsNamed}
 use Rattle.srcp_serve.specs.Given.{Call, door_call, ReadCall, WriteCall}
 use Rattle.srcp_serve.specs.Serving.{events_of, handed_out, stand_after, taken as given_taken}
@@ -42,12 +42,12 @@ at_index f g xs ys same k x y within =
     sym (get_or-map f xs k x) ∙ ap (λ zs. get_or zs k (f x)) same
     ∙ get_or_default (map g ys) k (f x) (g y) (omega (arith, within, long, length-map ys g)) ∙ get_or-map g ys k y
 
-pub follows : (count opens last : ℕ) (old : Held) (log_old : List Step) (new : Held) (log : List Step)
+pub follows : (count opens last : ℕ) (old : Past) (log_old : List Step) (new : Past) (log : List Step)
     → ServesCourse count opens old (Some (calls log_old)) new (Some (calls log)) → AreSound log → IsNamed log last
     → Follows count opens old log_old new log
-follows count opens last old log_old new log serves sound named buses layout stands none =
+follows count opens last old log_old new log serves sound named buses begins none =
     let given : IsOfGiven buses count opens (calls log) old new =
-    serves buses [] (calls log) layout stands (ap (λ l. Some (calls l)) none) refl named.differ in
+    serves buses [] (calls log) begins (ap (λ l. Some (calls l)) none) refl named.differ in
     record {
       given = given;
       sockets = λ k conn other within.

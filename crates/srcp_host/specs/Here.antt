@@ -1,7 +1,6 @@
 -- What is served at the sockets of the machine.
 use Rattle.std.specs.Prelude.{⊤, ◌≡◌, ℕ, List, Ok, Err}
-use Rattle.srcp_core.specs.Held.{Held}
-use Rattle.srcp_core.specs.Machine.{opening_held}
+use Rattle.srcp_core.specs.Past.{Past, no_past}
 use Rattle.srcp_layout_file.specs.Document.{config_of}
 use Rattle.srcp_layout_file.specs.declared.config.Config.{Config}
 use Rattle.srcp_peers.specs.Steps.{Step}
@@ -12,18 +11,18 @@ use Rattle.srcp_sockets.specs.Faults.{IsLocal}
 use Rattle.srcp_host.specs.Follows.{IsFollowed}
 use Rattle.srcp_sockets.specs.declared.mio_system.MioSystem.{MioSystem}
 
--- the file's layout was served at the file's port of the machine itself: a core that begins with the layout's buses, at
--- moment 0 and with no id given, was served for that many turns over the calls that the door's log has. `system` is
--- what the door makes its calls by at the end
+-- the file's layout was served at the file's port of the machine itself: a core of the
+-- layout to which nothing had happened was served for that many turns over the calls that the door's log has. `system`
+-- is what the door makes its calls by at the end
 pub record ServesHere {Clock : Type 0} (file : List ℕ) (turns : ℕ) (served : Served) (system : MioSystem Clock)
     (log : List Step) : Type 0 where
   pub config : Config
   pub opened : MioSystem Clock
-  pub held : Held
+  pub core : Past
   pub says : config_of file ≡ Ok config
   pub is_open : IsLocal opened.address config.port
   pub counted : served.turns ≡ turns
-  pub followed : IsFollowed config.layout turns served.opened log (opening_held config.layout 0 0) held
+  pub followed : IsFollowed config.layout turns served.opened log (no_past config.layout) core
 
 -- why nothing is served: the file is at fault; the port of a file that is not cannot be had; or memory was refused
 abbrev pub RefusesHere : (file : List ℕ) → HostFault → Type 0

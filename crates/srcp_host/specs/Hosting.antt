@@ -1,8 +1,7 @@
 -- What is served of a file, or why nothing is.
 use Rattle.std.specs.Prelude.{◌≡◌, ◌≢◌, ◌⊎◌, ℕ, List, Option, Some, Result, Ok, Err, if◌then◌else◌, nat_lt}
 use Rattle.srcp_info.specs.Limits.{greatest_u64}
-use Rattle.srcp_core.specs.Held.{Held}
-use Rattle.srcp_core.specs.Machine.{opening_held}
+use Rattle.srcp_core.specs.Past.{Past, no_past}
 use Rattle.srcp_layout_file.specs.Document.{config_of}
 use Rattle.srcp_layout_file.specs.declared.config.Config.{Config}
 use Rattle.srcp_peers.specs.Steps.{Step}
@@ -30,16 +29,16 @@ pub record IsAsked {Opener System : Type 0} (answers : Answers Opener System) (f
   pub says : config_of file ≡ Ok config
   pub answered : answers old config.port answer new
 
--- a door was opened at the file's port, and the file's layout was served at it: a core that begins with the layout's
--- buses, at moment 0 and with no id given, was served for that many turns over the calls that the door's log has
+-- a door was opened at the file's port, and the file's layout was served at it: a core of the layout to
+-- which nothing had happened was served for that many turns over the calls that the door's log has
 pub record Serves {Opener System : Type 0} (answers : Answers Opener System) (file : List ℕ) (turns : ℕ)
     (old new : Opener) (served : Served) (log : List Step) : Type 0 where
   pub config : Config
   pub opened : System
-  pub held : Held
+  pub core : Past
   pub asked : IsAsked answers file old new config (Ok opened)
   pub counted : served.turns ≡ turns
-  pub followed : IsFollowed config.layout turns served.opened log (opening_held config.layout 0 0) held
+  pub followed : IsFollowed config.layout turns served.opened log (no_past config.layout) core
 
 -- why nothing is served: the file is at fault, and the opener was not asked; the file's port cannot be had; or memory
 -- was refused, before the opener was asked, by it, or when it had opened the port

@@ -4,7 +4,7 @@ ghost use Rattle.std.specs.Prelude.{◌≡◌, ◌<◌, ◌+◌};
 ghost use Rattle.srcp_info.specs.Limits.{greatest_u64};
 ghost use Rattle.srcp_host.specs.Follows.{Follows};
 
-use srcp_core::Core;
+use srcp_core::LoggedCore;
 use srcp_rules::Rows;
 use srcp_serve::{Served, serve};
 use srcp_sockets::{SocketDoor, System};
@@ -14,7 +14,7 @@ use srcp_sockets::{SocketDoor, System};
 /// Connection k of that course is fed a prefix of what socket k gave. In that course the core counted exactly the
 /// refusals of memory.
 pub fn serve_sockets<R: Rows, S: System>(
-    core: &mut Core<'_, R>,
+    core: &mut LoggedCore<'_, R>,
     door: &mut SocketDoor<S>,
     turns: u64,
 ) -> Served

@@ -7,7 +7,7 @@ ghost use Rattle.srcp_host.specs.Hosting.{Refuses, Serves, longest_of_turns};
 use crate::course::serve_sockets;
 use crate::fault::HostFault;
 use crate::opener::Opener;
-use srcp_core::Core;
+use srcp_core::LoggedCore;
 use srcp_layout_file::read_layout;
 use srcp_rules::Rows;
 use srcp_serve::Served;
@@ -49,9 +49,7 @@ pub fn serve_file<R: Rows, O: Opener>(
     let config = read_layout(alloc, file)?;
     // The port stands in the file, so the caller hands over an opener and no door.
     let mut door = opener.open(alloc, config.port)?;
-    // Called for its contract, which says the layout's limits.
-    let _ = config.layout.buses();
-    let mut core = Core::<R>::new(alloc, &config.layout, 0, 0)?;
+    let mut core = LoggedCore::<R>::new(alloc, &config.layout)?;
     limit_waits(&mut door, turns);
     let served = serve_sockets(&mut core, &mut door, turns);
     // The caller gets the door back and drops the door, which delivers. So the contract says what the sockets took.

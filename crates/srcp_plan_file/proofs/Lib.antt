@@ -1,3 +1,5 @@
+pub mod Complete
+pub mod Finding
 pub mod Leading
 pub mod Lists
 pub mod Sharing

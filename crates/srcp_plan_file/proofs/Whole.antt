@@ -1,6 +1,6 @@
 -- What is read of a plan keeps to what every plan keeps to.
-use Rattle.std.proofs.Common.{◌≡◌, ◌≢◌, ℕ, ◌≤◌, Bool, true, false, ◌||◌, List, [], ◌∷◌, ◌++◌, Option, Some, None, Ok, Err}
-use Rattle.std.proofs.Common.{refl, arith}
+use Rattle.std.proofs.Common.{◌≡◌, ◌≢◌, ℕ, ◌≤◌, Bool, true, false, not, ◌&&◌, ◌||◌, List, [], ◌∷◌, ◌++◌, Option, Some, None, Ok, Err}
+use Rattle.std.proofs.Common.{length, refl, arith}
 use Rattle.std.specs.Prelude.{◌==◌, if◌then◌else◌, IfOk, IfSome, pos, negsuc}
 use Rattle.std.specs.Option.{option_map_or}
 use Rattle.std.specs.List.{All, AllPairs, list_any}
@@ -15,9 +15,11 @@ use Rattle.srcp_routes.specs.Conflicts.{has_accessory, is_same}
 use Rattle.srcp_routes.specs.declared.route.Device.{Device}
 use Rattle.srcp_routes.specs.declared.route.Setting.{Setting}
 use Rattle.srcp_routes.specs.declared.route.Signal.{Signal}
-use Rattle.srcp_plan_file.specs.Devices.{OrFault, other_bus, device_of, turnout_of, sensor_of, signal_with, signal_of}
+use Rattle.srcp_plan_file.specs.Devices.{OrFault, is_turnout, other_bus, device_of, turnout_of, sensor_of, signal_with, signal_of}
 use Rattle.srcp_plan_file.specs.Document.{delay_at, drawn_in, new_turnout, pieces_at, turnout_in, turnouts_in, array_if}
 use Rattle.srcp_plan_file.specs.Document.{sensor_in, sensors_in, sensors_at, new_signal, signal_at, frees_at, route_numbered}
+use Rattle.srcp_plan_file.specs.Document.{drawn_turnout, drawn_turnouts, found_turnouts, only_way, text_at, turnouts_at}
+use Rattle.srcp_plan_file.specs.Document.{turnouts_between, turnouts_or_found, ways_named}
 use Rattle.srcp_plan_file.specs.Document.{is_numbered, new_number, apart_from, apart_from_all, route_of, route_in, routes_in}
 use Rattle.srcp_plan_file.specs.Document.{plan_in, plan_of}
 use Rattle.srcp_plan_file.specs.Faults.{plan_key}
@@ -92,15 +94,40 @@ is_device own greatest b bus address =
     (λ n h. after (IsFrom 1 greatest) (IsBeside own greatest) (ranged 1 greatest b address) _ (is_ranged 1 greatest b address)
     (λ place k. record { bus = h.0; other = h.1; address = k }))
 
-is_turnout : (own : ℕ) (b : PlanFault) (values : List Data) → IfOk (turnout_of own b values) (IsTurnout own)
-is_turnout own b [] = tt
-is_turnout own b (bus ∷ []) = tt
-is_turnout own b (bus ∷ address ∷ []) = tt
-is_turnout own b (bus ∷ address ∷ port ∷ []) =
+turnout_holds : (own : ℕ) (b : PlanFault) (values : List Data) → IfOk (turnout_of own b values) (IsTurnout own)
+turnout_holds own b [] = tt
+turnout_holds own b (bus ∷ []) = tt
+turnout_holds own b (bus ∷ address ∷ []) = tt
+turnout_holds own b (bus ∷ address ∷ port ∷ []) =
     after (IsAccessory own) (IsTurnout own) (device_of own greatest_ga b bus address) _ (is_device own greatest_ga b bus address)
     (λ device h. after (IsFrom 0 last_port) (IsTurnout own) (ranged 0 last_port b port) _ (is_ranged 0 last_port b port)
     (λ n k. record { device = h; port = k.1 }))
-is_turnout own b (bus ∷ address ∷ port ∷ more ∷ others) = tt
+turnout_holds own b (bus ∷ address ∷ port ∷ more ∷ others) = tt
+
+both : (a b : Bool) → (a && b) ≡ true → (a ≡ true) × (b ≡ true)
+both true b e = (refl, e)
+both false b e = absurd (cc)
+
+is_other : (own n : ℕ) → not (n == own) ≡ true → n ≢ own
+is_other own n e = grind arith
+
+-- a turnout of the drawing that is within the limits
+is_within_own : (own : ℕ) (turnout : Setting) → is_turnout own turnout ≡ true → IsTurnout own turnout
+is_within_own own turnout e =
+    let a : (not (turnout.device.bus == own) ≡ true)
+    × ((is_within 1 greatest_bus turnout.device.bus
+    && (is_within 1 greatest_ga turnout.device.address && is_within 0 last_port turnout.port)) ≡ true) = both _ _ e in
+    let b : (is_within 1 greatest_bus turnout.device.bus ≡ true)
+    × ((is_within 1 greatest_ga turnout.device.address && is_within 0 last_port turnout.port) ≡ true) = both _ _ a.1 in
+    let c : (is_within 1 greatest_ga turnout.device.address ≡ true) × (is_within 0 last_port turnout.port ≡ true) = both _ _ b.1 in
+    record {
+      device = record {
+        bus = is_from 1 greatest_bus turnout.device.bus b.0;
+        other = is_other own turnout.device.bus a.0;
+        address = is_from 1 greatest_ga turnout.device.address c.0;
+      };
+      port = (is_from 0 last_port turnout.port c.1).1;
+    }
 
 is_sensor : (own : ℕ) (b : PlanFault) (values : List Data) → IfOk (sensor_of own b values) (IsSensor own)
 is_sensor own b [] = tt
@@ -163,7 +190,7 @@ module _ (own number : ℕ) where
       after (IsTurnout own) (IsNext before)
       (array_in (fault.Beyond number field.Turnouts) value >>= turnout_of own (fault.Beyond number field.Turnouts)) _
       (after (λ d. Unit) (IsTurnout own) (array_in (fault.Beyond number field.Turnouts) value) _ (any _)
-      (λ values h. is_turnout own (fault.Beyond number field.Turnouts) values))
+      (λ values h. turnout_holds own (fault.Beyond number field.Turnouts) values))
       (λ turnout h. new_if before turnout (has_accessory before turnout.device) refl h)
 
   are_turnouts : (before : List Setting) (values : List Data) → AreTurnouts before → IfOk (turnouts_in own number before values) AreTurnouts
@@ -181,10 +208,38 @@ module _ (own number : ℕ) where
   no_pairs : AllPairs AreOther []
   no_pairs = λ i j d lt below. absurd (omega arith)
 
-  turnouts_hold : (members : Members) → IfOk (array_if number field.Turnouts members >>= turnouts_in own number []) AreTurnouts
-  turnouts_hold members =
-      after (λ v. Unit) AreTurnouts (array_if number field.Turnouts members) _ (any _)
-      (λ values h. are_turnouts [] values (All-nil (IsTurnout own), no_pairs))
+  none : AreTurnouts []
+  none = (All-nil (IsTurnout own), no_pairs)
+
+  drawn_if : (before : List Setting) (turnout : Setting) (w : Bool) → is_turnout own turnout ≡ w
+      → IfOk (drawn_turnout own number before turnout) (IsNext before)
+  drawn_if before turnout true e = rw e (new_if before turnout (has_accessory before turnout.device) refl (is_within_own own turnout e))
+  drawn_if before turnout false e = rw e tt
+
+  are_drawn : (before turnouts : List Setting) → AreTurnouts before → IfOk (drawn_turnouts own number before turnouts) AreTurnouts
+  are_drawn before [] h = h
+  are_drawn before (turnout ∷ turnouts) h =
+      after (IsNext before) AreTurnouts (drawn_turnout own number before turnout) _ (drawn_if before turnout (is_turnout own turnout) refl)
+      (λ next n. are_drawn (before ++ next ∷ []) turnouts
+      (All-push (IsTurnout own) before next h.0 n.0, all_pairs_push AreOther before next h.1 n.1))
+
+  are_between : (drawn : Drawn) (from to : Option (List ℕ)) → IfOk (turnouts_between own number drawn from to) AreTurnouts
+  are_between drawn None to = none
+  are_between drawn (Some from) None = none
+  are_between drawn (Some from) (Some to) =
+      after (λ t. Unit) AreTurnouts (only_way number (ways_named drawn from to)) _ (any _) (λ turnouts h. are_drawn [] turnouts none)
+
+  are_found : (drawn : Drawn) (members : Members) (w : Bool) → (length drawn.pieces == 0) ≡ w
+      → IfOk (found_turnouts own number drawn members) AreTurnouts
+  are_found drawn keys true e = rw e none
+  are_found drawn keys false e = rw e (are_between drawn (text_at field.From keys) (text_at field.To keys))
+
+  turnouts_hold : (drawn : Drawn) (members : Members) (given : Option Data)
+      → IfOk (turnouts_or_found own number drawn members given) AreTurnouts
+  turnouts_hold drawn keys None = are_found drawn keys (length drawn.pieces == 0) refl
+  turnouts_hold drawn keys (Some value) =
+      after (λ v. Unit) AreTurnouts (array_in (fault.Beyond number field.Turnouts) value) _ (any _)
+      (λ values h. are_turnouts [] values none)
 
   is_sensor_in : (f : Field) (value : Data) → IfOk (sensor_in own number f value) (IsSensor own)
   is_sensor_in f value =
@@ -240,7 +295,8 @@ module _ (own number : ℕ) where
   numbered : (drawn : Drawn) (members : Members) → IsFrom 1 greatest_ga number
       → IfOk (route_numbered own number drawn members) IsNumbered
   numbered drawn members n =
-      after AreTurnouts IsNumbered (array_if number field.Turnouts members >>= turnouts_in own number []) _ (turnouts_hold members)
+      after AreTurnouts IsNumbered (turnouts_at own number drawn members) _
+      (turnouts_hold drawn members (value_at (plan_key field.Turnouts) members))
       (λ turnouts t. after (All (IsSensor own)) IsNumbered (sensors_at own number field.Blocks members) _
       (sensors_hold field.Blocks members)
       (λ blocks b. after (IsSignalBeside turnouts) IsNumbered (signal_at own number turnouts members) _ (signal_holds turnouts members)

@@ -1,7 +1,8 @@
 -- Turnouts, sensors and signals of a plan, each an array of numbers.
-use Rattle.std.specs.Prelude.{ℕ, ◌==◌, if◌then◌else◌, List, [], ◌∷◌, Result, Ok, Err}
+use Rattle.std.specs.Prelude.{ℕ, Bool, not, ◌&&◌, ◌==◌, if◌then◌else◌, List, [], ◌∷◌, Result, Ok, Err}
 use Rattle.toml.specs.Data.{Data}
 use Rattle.srcp_layout_file.specs.Gives.{◌>>=◌}
+use Rattle.srcp_grammar.specs.Layout.{is_within}
 use Rattle.srcp_info.specs.Limits.{greatest_bus, greatest_ga, greatest_fb}
 use Rattle.srcp_layout_file.specs.Member.{ranged}
 use Rattle.srcp_routes.specs.declared.route.Device.{Device}
@@ -32,6 +33,12 @@ turnout_of own beyond (bus ∷ address ∷ port ∷ []) = do
   wanted ← ranged 0 last_port beyond port
   Ok (record { device = device; port = wanted })
 turnout_of own beyond other = Err beyond
+
+-- a turnout within the limits that is not on the routes' own bus
+abbrev pub is_turnout : (own : ℕ) → Setting → Bool
+is_turnout own turnout = not (turnout.device.bus == own)
+    && (is_within 1 greatest_bus turnout.device.bus
+    && (is_within 1 greatest_ga turnout.device.address && is_within 0 last_port turnout.port))
 
 -- a sensor of its bus and its address
 abbrev pub sensor_of : (own : ℕ) → PlanFault → List Data → OrFault Device

@@ -1,6 +1,6 @@
 -- What a plan says: from the bytes of a TOML document to the routes, or to the first fault.
 use Rattle.std.specs.Prelude.{ℕ, Bool, ◌==◌, if◌then◌else◌, List, [], ◌∷◌, ◌++◌, Option, Some, None, Ok, Err}
-use Rattle.std.specs.Prelude.{length, map, nat_eq, ok_or, option_and_then, unwrap_or}
+use Rattle.std.specs.Prelude.{length, map, nat_eq, ok_or, option_and_then, option_map, unwrap_or}
 use Rattle.std.specs.List.{list_any, position}
 use Rattle.std.specs.Cmp.Lexicographic.{pointwise}
 use Rattle.toml.specs.Data.{Data, table, Members, as_str, as_table}
@@ -12,12 +12,13 @@ use Rattle.srcp_routes.specs.declared.route.Device.{Device}
 use Rattle.srcp_routes.specs.declared.route.Setting.{Setting}
 use Rattle.srcp_routes.specs.declared.route.Signal.{Signal}
 use Rattle.srcp_plan_file.specs.Faults.{plan_key}
-use Rattle.srcp_plan_file.specs.Devices.{OrFault, sensor_of, signal_of, turnout_of}
+use Rattle.srcp_plan_file.specs.Devices.{OrFault, is_turnout, sensor_of, signal_of, turnout_of}
 use Rattle.srcp_plan_file.specs.Drawing.{drawing, name_of}
 use Rattle.srcp_plan_file.specs.Elements.{kind_of}
 use Rattle.srcp_plan_file.specs.Joins.{joins_of}
 use Rattle.srcp_plan_file.specs.Keys.{only_known, plan_keys, route_keys}
 use Rattle.srcp_plan_file.specs.Plan.{Drawn, Planned, PlannedRoute, crosses, default_delay, longest_delay, mixes}
+use Rattle.srcp_plan_file.specs.Searches.{Walked, ways_between}
 use Rattle.srcp_plan_file.specs.Ways.{way}
 use Rattle.srcp_plan_file.specs.declared.plan.Field.{Field}
 use Rattle.srcp_plan_file.specs.declared.plan.Field.TheVariants as field
@@ -55,6 +56,18 @@ abbrev pub way_between : Drawn → List Setting → (from to : List ℕ) → Opt
 way_between drawn turnouts from to = option_and_then
     (λ begin. option_and_then (way drawn.joins drawn.kinds turnouts begin) (piece_named drawn to))
     (piece_named drawn from)
+
+-- the ways from one name to another that pass no button
+abbrev pub ways_named : Drawn → (from to : List ℕ) → List Walked
+ways_named drawn from to = unwrap_or (option_and_then
+    (λ begin. option_map (ways_between drawn.joins drawn.kinds begin) (piece_named drawn to))
+    (piece_named drawn from)) []
+
+-- the turnouts of a route that has only one way
+abbrev pub only_way : (number : ℕ) → List Walked → OrFault (List Setting)
+only_way number [] = Err (fault.NoTrack number)
+only_way number (walk ∷ []) = Ok walk.turnouts
+only_way number several = Err (fault.Several number)
 
 -- the pieces of the way of a route from one name to another, which there has to be
 abbrev pub pieces_between : Drawn → (number : ℕ) → List Setting → Option (List ℕ) → Option (List ℕ) → OrFault (List ℕ)
@@ -102,6 +115,39 @@ module _ (own number : ℕ) where
     turnout ← turnout_in before value
     turnouts_in (before ++ turnout ∷ []) values
 
+  -- a turnout of the drawing beside those before it
+  abbrev pub drawn_turnout : List Setting → Setting → OrFault Setting
+  drawn_turnout before turnout =
+      if is_turnout own turnout then new_turnout number before turnout
+      else Err (fault.Beyond number field.Turnouts)
+
+  -- the turnouts before, and these of the drawing
+  abbrev pub drawn_turnouts : List Setting → List Setting → OrFault (List Setting)
+  drawn_turnouts before [] = Ok before
+  drawn_turnouts before (turnout ∷ turnouts) = do
+    next ← drawn_turnout before turnout
+    drawn_turnouts (before ++ next ∷ []) turnouts
+
+  -- the turnouts of the only way of the drawing from one end to the other
+  abbrev pub turnouts_between : Drawn → Option (List ℕ) → Option (List ℕ) → OrFault (List Setting)
+  turnouts_between drawn (Some from) (Some to) = only_way number (ways_named drawn from to) >>= drawn_turnouts []
+  turnouts_between drawn from to = Ok []
+
+  -- those, if anything is drawn
+  abbrev pub found_turnouts : Drawn → Members → OrFault (List Setting)
+  found_turnouts drawn members = if length drawn.pieces == 0 then Ok []
+      else turnouts_between drawn (text_at field.From members) (text_at field.To members)
+
+  -- these turnouts, or those that are found, if none are given
+  abbrev pub turnouts_or_found : Drawn → Members → Option Data → OrFault (List Setting)
+  turnouts_or_found drawn keys None = found_turnouts drawn keys
+  turnouts_or_found drawn keys (Some value) =
+      array_in (fault.Beyond number field.Turnouts) value >>= turnouts_in []
+
+  -- the turnouts of the route
+  abbrev pub turnouts_at : Drawn → Members → OrFault (List Setting)
+  turnouts_at drawn members = turnouts_or_found drawn members (value_at (plan_key field.Turnouts) members)
+
   -- a sensor of this key
   abbrev pub sensor_in : Field → Data → OrFault Device
   sensor_in of value = array_in (fault.Beyond number of) value >>= sensor_of own (fault.Beyond number of)
@@ -135,7 +181,7 @@ module _ (own number : ℕ) where
   -- the route of this number, from its keys
   abbrev pub route_numbered : Drawn → Members → OrFault PlannedRoute
   route_numbered drawn members = do
-    turnouts ← array_if number field.Turnouts members >>= turnouts_in []
+    turnouts ← turnouts_at drawn members
     blocks ← sensors_at field.Blocks members
     signal ← signal_at turnouts members
     frees ← frees_at members

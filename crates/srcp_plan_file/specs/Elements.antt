@@ -27,15 +27,16 @@ abbrev pub turnout_kind : Data → Kind
 turnout_kind value = turnout_read
     (array_in (fault.OutOfRange field.Turnout) value >>= turnout_of 0 (fault.OutOfRange field.Turnout))
 
--- an entry of the legend is an element that a train passes straight on
+-- an entry of the legend is a signal or a sensor
 abbrev pub is_passed : Members → Bool
-is_passed entry = is_some (value_at (plan_key field.Signal) entry)
-    || (is_some (value_at (plan_key field.Sensor) entry) || is_some (value_at (plan_key field.Button) entry))
+is_passed entry =
+    is_some (value_at (plan_key field.Signal) entry) || is_some (value_at (plan_key field.Sensor) entry)
 
 -- the kind of an entry of the legend
 abbrev pub table_kind : Members → Kind
 table_kind entry = option_map_or turnout_kind (value_at (plan_key field.Turnout) entry)
-    (if is_passed entry then kind.Track else kind.Beside)
+    (if is_passed entry then kind.Track
+    else (if is_some (value_at (plan_key field.Button) entry) then kind.Button else kind.Beside))
 
 -- the kind of what stands at a name in the legend
 abbrev pub entry_kind : Data → Kind

@@ -45,6 +45,8 @@ plan_text (fault.Twice number) = codes "plan: route " ++ decimal number ++ codes
 plan_text (fault.Beyond number of) =
     codes "plan: route " ++ decimal number ++ codes ": " ++ field_key of ++ codes " out of range"
 plan_text (fault.Repeated number) = codes "plan: route " ++ decimal number ++ codes ": an accessory twice"
+plan_text (fault.NoTrack number) = codes "plan: route " ++ decimal number ++ codes ": no track leads to its end"
+plan_text (fault.Several number) = codes "plan: route " ++ decimal number ++ codes ": several tracks lead to its end"
 plan_text (fault.NoWay number) =
     codes "plan: route " ++ decimal number ++ codes ": no track leads over its turnouts"
 plan_text (fault.Mixed number other) =

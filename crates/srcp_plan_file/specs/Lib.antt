@@ -8,4 +8,5 @@ pub mod Keys
 pub mod Laws
 pub mod Output
 pub mod Plan
+pub mod Searches
 pub mod Ways

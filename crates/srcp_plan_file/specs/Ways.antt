@@ -64,6 +64,7 @@ leads joins false came goes = (goes.from == came.to) && is_straight joins came g
 -- what a train does at a piece of this kind, to which it came by a join
 abbrev pub next_at : List Join → List Setting → Join → Kind → Option Join
 next_at joins turnouts came kind.Track = only_join joins came.to
+next_at joins turnouts came kind.Button = only_join joins came.to
 next_at joins turnouts came kind.Crossing = find (goes_straight came) joins
 next_at joins turnouts came (kind.Turnout device branch) =
     option_and_then (λ to_branch. find (leads joins to_branch came) joins) (branches turnouts device branch)

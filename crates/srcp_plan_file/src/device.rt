@@ -3,6 +3,7 @@
 ghost use Rattle.std.specs.Prelude.{◌≡◌, map};
 ghost use Rattle.toml.specs.View.{view as data_of};
 ghost use Rattle.srcp_plan_file.specs.Devices.{device_of, other_bus, sensor_of, signal_of, signal_with, turnout_of};
+ghost use Rattle.srcp_plan_file.specs.Devices.{is_turnout};
 
 use crate::plan::PlanFault;
 use srcp_info::{GREATEST_BUS, GREATEST_FB, GREATEST_GA, MOST_PORTS};
@@ -48,6 +49,17 @@ pub(crate) fn turnout_of(own: u8, values: &[Value], beyond: PlanFault) -> Result
         }
         _ => Err(beyond),
     }
+}
+
+/// Returns whether a turnout is within the limits, and on another bus than the routes' own.
+pub(crate) fn is_turnout(own: u8, turnout: Setting) -> bool
+    ensures { result ≡ is_turnout own turnout }
+{
+    let device = turnout.device;
+    device.bus != own
+        && (1 <= device.bus && device.bus <= GREATEST_BUS)
+        && (1 <= device.address && device.address <= GREATEST_GA)
+        && u32::from(turnout.port) <= LAST_PORT
 }
 
 /// Reads a sensor from its bus and its address.

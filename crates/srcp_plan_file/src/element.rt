@@ -22,6 +22,8 @@ pub(crate) enum Kind {
     Track,
     /// The train goes straight on.
     Crossing,
+    /// The train goes on as the track does, and a route may begin or end here.
+    Button,
     /// The train goes on as this turnout is put. The port is that of the branch.
     Turnout(Device, u8),
     /// No train passes: what stands beside the tracks, or what the legend does not name.
@@ -42,13 +44,11 @@ fn turnout_kind(value: &Value) -> Kind
     }
 }
 
-/// Returns whether an entry of the legend is an element that a train passes straight on.
+/// Returns whether an entry of the legend is a signal or a sensor.
 fn is_passed(entry: &Table) -> bool
     ensures { result ≡ is_passed (table_view entry.now) }
 {
-    value_at(entry, Field::Signal).is_some()
-        || value_at(entry, Field::Sensor).is_some()
-        || value_at(entry, Field::Button).is_some()
+    value_at(entry, Field::Signal).is_some() || value_at(entry, Field::Sensor).is_some()
 }
 
 /// Returns the kind of an entry of the legend.
@@ -58,6 +58,7 @@ fn table_kind(entry: &Table) -> Kind
     match value_at(entry, Field::Turnout) {
         Some(value) => turnout_kind(value),
         None if is_passed(entry) => Kind::Track,
+        None if value_at(entry, Field::Button).is_some() => Kind::Button,
         None => Kind::Beside,
     }
 }

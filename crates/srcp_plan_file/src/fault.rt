@@ -71,6 +71,12 @@ impl fmt::Display for PlanFault {
                 write!(f, "plan: route {number}: {key} out of range")
             }
             PlanFault::Repeated(number) => write!(f, "plan: route {number}: an accessory twice"),
+            PlanFault::NoTrack(number) => {
+                write!(f, "plan: route {number}: no track leads to its end")
+            }
+            PlanFault::Several(number) => {
+                write!(f, "plan: route {number}: several tracks lead to its end")
+            }
             PlanFault::NoWay(number) => {
                 write!(f, "plan: route {number}: no track leads over its turnouts")
             }

@@ -15,6 +15,7 @@ mod keys;
 pub mod laws;
 mod plan;
 mod print;
+mod search;
 mod tracks;
 mod way;
 

@@ -60,6 +60,10 @@ pub enum PlanFault {
     UnknownIn(u32),
     /// The route of this number names an accessory twice.
     Repeated(u32),
+    /// No way over the drawing leads from one end of the route of this number to the other past no button.
+    NoTrack(u32),
+    /// Several ways do so.
+    Several(u32),
     /// No track of the drawing leads from one end of the route of this number to the other over its turnouts.
     NoWay(u32),
     /// The signal of either of these routes is a turnout of the other.

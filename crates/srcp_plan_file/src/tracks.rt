@@ -1,14 +1,17 @@
 //! The tracks of a plan as they are drawn, and the way of a route over them.
 
-ghost use Rattle.std.specs.Prelude.{◌≡◌, IfOk, option_and_then, option_map};
+ghost use Rattle.std.specs.Prelude.{◌≡◌, IfOk, map, option_and_then, option_map};
 ghost use Rattle.toml.specs.View.{table_view};
 ghost use Rattle.srcp_plan_file.specs.Document.{drawn_in, drawn_of, legend_at, piece_named, text_at, way_between};
+ghost use Rattle.srcp_plan_file.specs.Document.{ways_named};
 ghost use Rattle.srcp_plan_file.specs.Plan.{drawn};
+ghost use Rattle.srcp_plan_file.specs.Searches.{walked};
 
 use crate::drawing::{Piece, draw, name_of};
 use crate::element::{Kind, kinds_of};
 use crate::join::{Join, joins_of};
 use crate::plan::Field;
+use crate::search::{Walk, find_ways};
 use crate::way::find_way;
 use srcp_layout_file::member::value_at;
 use srcp_routes::Setting;
@@ -84,6 +87,23 @@ impl Tracks {
         self.pieces
             .iter()
             .position(|piece| name_of(&self.text, *piece) == name)
+    }
+
+    /// Returns the ways from one name to another that pass no button.
+    pub(crate) fn ways_named(
+        &self,
+        alloc: Global,
+        from: &str,
+        to: &str,
+    ) -> Result<Vec<Walk>, AllocError>
+        ensures { IfOk result (λ found. map walked found.items ≡ ways_named (drawn self.now) from.now to.now) }
+    {
+        let begin = self.piece_named(from.as_bytes());
+        let goal = self.piece_named(to.as_bytes());
+        match (begin, goal) {
+            (Some(begin), Some(goal)) => { find_ways(alloc, &self.joins, &self.kinds, begin, goal) }
+            _ => Ok(Vec::new(alloc)),
+        }
     }
 
     /// Returns the pieces of the way from one name to another, without the first, if there is a way.

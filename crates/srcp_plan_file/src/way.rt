@@ -13,7 +13,7 @@ use std::alloc::{AllocError, Global};
 use std::vec::Vec;
 
 /// Returns what a piece is.
-fn kind_at(kinds: &[Kind], n: usize) -> Kind
+pub(crate) fn kind_at(kinds: &[Kind], n: usize) -> Kind
     ensures { result ≡ kind_at kinds.now n }
 {
     kinds.get(n).copied().unwrap_or(Kind::Beside)
@@ -30,7 +30,7 @@ fn branches(turnouts: &[Setting], device: Device, branch: u8) -> Option<bool>
 }
 
 /// Returns the first join by which a train may leave a piece.
-fn first_join(joins: &[Join], n: usize) -> Option<Join>
+pub(crate) fn first_join(joins: &[Join], n: usize) -> Option<Join>
     ensures { result ≡ first_join joins.now n }
 {
     for join in joins {
@@ -138,11 +138,11 @@ fn led_join(joins: &[Join], to_branch: bool, came: Join) -> Option<Join>
 }
 
 /// Returns the join over which a train goes on that came by a join, if any.
-fn next(joins: &[Join], kinds: &[Kind], turnouts: &[Setting], came: Join) -> Option<Join>
+pub(crate) fn next(joins: &[Join], kinds: &[Kind], turnouts: &[Setting], came: Join) -> Option<Join>
     ensures { result ≡ next joins.now kinds.now turnouts.now came }
 {
     match kind_at(kinds, came.to) {
-        Kind::Track => only_join(joins, came.to),
+        Kind::Track | Kind::Button => only_join(joins, came.to),
         Kind::Crossing => straight_join(joins, came),
         Kind::Turnout(device, branch) => {
             let to_branch = branches(turnouts, device, branch)?;

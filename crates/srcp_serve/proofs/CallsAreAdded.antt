@@ -1,11 +1,9 @@
 -- What a door told and what the core counted, call after call.
-use Rattle.srcp_serve.proofs.Names.{◌≡◌, ◌∙◌, List, [], ◌∷◌, ◌++◌, map, Some, None, Result, refl, sym, append_assoc, append-nil, ℕ, ◌+◌}
-use Rattle.srcp_serve.proofs.Names.{if◌then◌else◌, Ok, Err, append_cancel_left, map-append, flat_map-append, fold-append, min, Held, At}
-use Rattle.srcp_serve.proofs.Names.{Event, Room, none_denied, DoorCall, Extends, Adds, Trace, Call, CountsRefusals, GivesUnlessCounted}
-use Rattle.srcp_serve.proofs.Names.{answers_in, answers_of, NowCall, AddsGiven, CountsAsked, Makes, DoorFault, Bus, counted, course}
-use Rattle.srcp_serve.proofs.Names.{denied_in, start, Stand, timed}
-use Rattle.srcp_door.specs.Calls.{CloseCall}
-use Rattle.srcp_serve.specs.Visits.{Closes}
+use Rattle.srcp_serve.proofs.Names.{◌≡◌, ◌∙◌, List, [], ◌∷◌, ◌++◌, map, Some, None, refl, sym, ap, append_assoc, append-nil, ℕ}
+use Rattle.srcp_serve.proofs.Names.{if◌then◌else◌, Bool, true, false, ◌==◌, ◌+◌, append_cancel_left, map-append, flat_map-append}
+use Rattle.srcp_serve.proofs.Names.{fold-append, Past, course_of, denied, happened, number, room_for, Event, Room, denied_by, none_denied}
+use Rattle.srcp_serve.proofs.Names.{DoorCall, Extends, Adds, Trace, Call, CountsRefusals, GivesUnlessCounted, answers_of, AddsGiven, Keys}
+use Rattle.srcp_serve.proofs.Names.{Makes, Went, rooms_of, Bus, counted, denied_in, denied_over, start}
 use Rattle.srcp_core.proofs.Agreement.RefusalsAreCounted.{denied_over_push}
 
 -- one call more
@@ -30,68 +28,85 @@ pub given_then : {old trace_mid : Trace} {mid trace : List DoorCall} (xs ys : Li
     → AddsGiven old mid xs → AddsGiven trace_mid trace ys → AddsGiven old trace (xs ++ ys)
 given_then xs ys e a b = rw map-append (adds_then e a b)
 
+counts_then : (first mid last : ℕ) (xs ys : List Bool) → mid ≡ denied_by first xs → last ≡ denied_by mid ys
+    → last ≡ denied_by first (xs ++ ys)
+counts_then first mid last xs ys a b = rw (fold-append, ← a) b
+
 -- the refusals of these calls were counted, and then those of the others
-pub refusals_then : (old mid new : Held) (xs ys : List Call) → CountsRefusals old xs mid → CountsRefusals mid ys new
+pub refusals_then : (old mid new : Past) (xs ys : List Call) → CountsRefusals old xs mid → CountsRefusals mid ys new
     → CountsRefusals old (xs ++ ys) new
 refusals_then old mid new xs ys a b =
-    cc (
-      fold-append (λ count granted. if granted then count else min (count + 1) 18446744073709551615) old.denied (answers_of xs)
-          (answers_of ys),
-      flat_map-append answers_in xs ys,
-    )
+    rw flat_map-append (counts_then (denied old) (denied mid) (denied new) (answers_of xs) (answers_of ys) a b)
 
 -- if no refusal is counted, memory was given in each answer
 pub gives_all : GivesUnlessCounted
-gives_all old calls new counted none = (none_denied _ old.denied (sym counted ∙ none)).1
+gives_all old calls new counted none = (none_denied _ (denied old) (sym counted ∙ none)).1
 
 -- the same calls were added
 pub same_calls : {old : Trace} {trace xs ys : List DoorCall} → Adds old trace xs → Adds old trace ys → xs ≡ ys
 same_calls {xs = xs} {ys = ys} a b =
     let same : b.before ≡ a.before = cc in append_cancel_left _ xs ys (sym a.is ∙ b.is ∙ rw same refl)
 
--- what was refused of memory was asked for in the course, event after event
-module _ (buses : List Bus) where
-  -- after one event
-  pub asked_one : (events : List Event) (event : Event) (old new : Held) → new.denied
-      ≡ denied_in buses old.denied (counted (course buses events)) event → CountsAsked buses events (events ++ event ∷ []) old new
-  asked_one events event old new e first h = cc (denied_over_push buses first start events event)
+-- what is counted after one event more
+pub denied_more : (event : Event) (old : Past)
+    → denied (happened event old) ≡ denied_in old.buses (denied old) (counted (course_of old)) event
+denied_more event old = denied_over_push old.buses 0 start old.events event
 
-  -- after none
-  pub asked_none : (events : List Event) (old : Held) → CountsAsked buses events (events ++ []) old old
-  asked_none events old first h = simp (h, append-nil)
+-- room asks for no memory
+pub denied_rooms : (buses : List Bus) (n : ℕ) (counts : List ℕ) (events : List Event)
+    → denied_over buses 0 start (events ++ map (Room n) counts) ≡ denied_over buses 0 start events
+denied_rooms buses n [] events = simp append-nil
+denied_rooms buses n (count ∷ counts) events =
+    cc (
+      denied_rooms buses n counts (events ++ Room n count ∷ []),
+      denied_over_push buses 0 start events (Room n count),
+      append_assoc events (Room n count ∷ []) (map (Room n) counts),
+    )
 
-  -- room asks for no memory
-  pub asked_rooms : (n : ℕ) (counts : List ℕ) (events : List Event) (old new : Held) → new.denied ≡ old.denied
-      → CountsAsked buses events (events ++ map (Room n) counts) old new
-  asked_rooms n [] events old new same first h = same ∙ asked_none events old first h
-  asked_rooms n (count ∷ counts) events old new same first h =
-      cc (
-        asked_rooms n counts (events ++ Room n count ∷ []) old new same first (asked_one events (Room n count) old old refl first h),
-        append_assoc events (Room n count ∷ []) (map (Room n) counts),
-      )
+-- ---- what happened to the core
 
-  -- nor does a moment
-  pub asked_moment : (answer : Result ℕ DoorFault) (stand : Stand) (old new : Held) → new.denied ≡ old.denied
-      → CountsAsked buses stand.events (timed buses stand (NowCall answer ∷ [])).events old new
-  asked_moment (Ok moment) stand old new same first h = asked_one stand.events (At moment) old new same first h
-  asked_moment (Err failed) stand old new same first h = same ∙ h
+pub went_by : (more : List Event) (keys : Keys) (old new : Past)
+    → new ≡ record { buses = old.buses; events = old.events ++ more; keys = keys } → Went more keys old new
+went_by more keys old new is = rw is (record { layout = refl; events = refl; keys = refl })
 
--- these calls, and then those
-pub makes_then : {buses : List Bus} {before between after : List Event} {xs ys : List Call} {trace_old trace_mid : Trace}
-    {mid trace : List DoorCall} {old held new : Held} → trace_mid ≡ Some mid → Makes buses before between xs trace_old mid old held
-    → Makes buses between after ys trace_mid trace held new → Makes buses before after (xs ++ ys) trace_old trace old new
-makes_then {xs = xs} {ys = ys} {old = old} {held = held} {new = new} is x y = record {
-  adds = given_then xs ys is x.adds y.adds;
-  counted = refusals_then old held new xs ys x.counted y.counted;
-  asked_for = λ first h. y.asked_for first (x.asked_for first h);
+-- nothing
+pub went_none : (old : Past) → Went [] old.keys old old
+went_none old = record { layout = refl; events = sym (append-nil old.events); keys = refl }
+
+-- the same events and keys under other names
+pub went_as : (xs ys : List Event) (mine all : Keys) (old new : Past) → Went xs mine old new → xs ≡ ys → mine ≡ all → Went ys all old new
+went_as xs ys mine all old new w e f =
+    record { layout = w.layout; events = w.events ∙ ap (λ es. old.events ++ es) e; keys = w.keys ∙ f }
+
+-- these events, and then those
+pub went_then : (xs ys : List Event) (mine all : Keys) (old mid new : Past) → Went xs mine old mid → Went ys all mid new
+    → Went (xs ++ ys) all old new
+went_then xs ys mine all old mid new x y = record {
+  layout = y.layout ∙ x.layout;
+  events = y.events ∙ ap (λ es. es ++ ys) x.events ∙ append_assoc old.events xs ys;
+  keys = y.keys;
 }
 
--- no call
-pub makes_none : (buses : List Bus) (events : List Event) (trace_old : Trace) (trace : List DoorCall) (old : Held) → trace_old ≡ Some trace
-    → Makes buses events (events ++ []) [] trace_old trace old old
-makes_none buses events trace_old trace old is =
-    record { adds = adds_none is; counted = refl; asked_for = asked_none buses events old }
+-- the rooms of a write
+pub went_write : (key count : ℕ) (old new : Past) → new ≡ room_for key count (happened (Room (number key old) 0) old)
+    → Went (map (Room (number key old)) (rooms_of count)) old.keys old new
+went_write key count old new is = went_by _ old.keys old new (is ∙ by (count == 0))
+  where
+    n : ℕ
+    n = number key old
 
-pub closes_by : (peer : ℕ) (answer : Result Unit DoorFault) (old new : Trace) → Extends old (CloseCall peer answer) new
-    → Closes peer old new
-closes_by peer answer old new h trace is = (CloseCall peer answer ∷ [], adds_one _ old new trace h is, (answer, refl))
+    by : (t : Bool) → (if t then happened (Room n 0) old else happened (Room n count) (happened (Room n 0) old))
+        ≡ record { buses = old.buses; events = old.events ++ map (Room n) (0 ∷ (if t then [] else count ∷ [])); keys = old.keys }
+    by true = refl
+    by false = rw append_assoc refl
+
+-- these calls, and then those
+pub makes_then : {xs ys : List Call} {trace_old trace_mid : Trace} {mid trace : List DoorCall} {old held new : Past}
+    → trace_mid ≡ Some mid → Makes xs trace_old mid old held → Makes ys trace_mid trace held new
+    → Makes (xs ++ ys) trace_old trace old new
+makes_then {xs = xs} {ys = ys} {old = old} {held = held} {new = new} is x y =
+    record { adds = given_then xs ys is x.adds y.adds; counted = refusals_then old held new xs ys x.counted y.counted }
+
+-- no call
+pub makes_none : (trace_old : Trace) (trace : List DoorCall) (old : Past) → trace_old ≡ Some trace → Makes [] trace_old trace old old
+makes_none trace_old trace old is = record { adds = adds_none is; counted = refl }

@@ -1,11 +1,10 @@
 -- What the methods of a server ask of its door, call after call, and how failed calls are counted.
-use Rattle.srcp_serve.proofs.Names.{◌≡◌, ◌∙◌, ℕ, ◌+◌, true, not, List, [], ◌∷◌, ◌++◌, Option, Result, refl, append-nil, length-append}
-use Rattle.srcp_serve.proofs.Names.{◌≤◌, arith, flat_map-append, list_all-append, all_append, list_all, AllByRecursion}
-use Rattle.srcp_serve.proofs.Names.{flat_map, Extends, Trace, one_more, AreAboutPeers, AreTurns, AreMoment, Asks, AreAccept, IsTurn}
-use Rattle.srcp_serve.proofs.Names.{is_of_peer, DoorFault}
+use Rattle.srcp_serve.proofs.Names.{◌≡◌, ◌∙◌, ℕ, ◌+◌, true, not, List, [], ◌∷◌, ◌++◌, Option, refl, append-nil, length-append, ◌≤◌, arith}
+use Rattle.srcp_serve.proofs.Names.{flat_map-append, list_all-append, all_append, list_all, AllByRecursion, flat_map, Trace}
+use Rattle.srcp_serve.proofs.Names.{AreAboutPeers, AreTurns, AreMoment, Asks, AreAccept, IsTurn, is_of_peer}
 use Rattle.srcp_door.specs.Calls.{Call, ExpectCall, NowCall, AcceptCall, IsFair, is_expect, turns}
 use Rattle.srcp_serve.proofs.CallsByTurnAndPeer.{one_part, parts-append}
-use Rattle.srcp_serve.proofs.CallsAreAdded.{adds_none, adds_one, adds_then}
+use Rattle.srcp_serve.proofs.CallsAreAdded.{adds_none, adds_then}
 use Rattle.srcp_serve.specs.Tally.{CountsFaults, CallsDoor}
 use Rattle.srcp_serve.specs.declared.serving.Server.{Server}
 
@@ -18,9 +17,6 @@ of_peers_then xs ys x y = record {
 pub asks_none : (old : Trace) → Asks AreAboutPeers old old
 asks_none old trace is = ([], adds_none is, record { peers = refl; fair = tt })
 
-pub asks_one : (Are : List Call → Type 0) (call : Call) (old new : Trace) → Are (call ∷ []) → Extends old call new → Asks Are old new
-asks_one Are call old new are h trace is = (call ∷ [], adds_one call old new trace h is, are)
-
 -- calls that are so, and then others
 pub asks_then : {A B C : List Call → Type 0} → ((xs ys : List Call) → A xs → B ys → C (xs ++ ys)) → (old mid new : Trace)
     → Asks A old mid → Asks B mid new → Asks C old new
@@ -28,20 +24,6 @@ asks_then join old mid new first second trace is =
     let y = second trace is in
     let x = first _ y.1.was in
     (x.0 ++ y.0, adds_then y.1.was x.1 y.1, join x.0 y.0 x.2 y.2)
-
-pub asks_moment : (due slack : Option ℕ) (answer : Result ℕ DoorFault) (old mid new : Trace) → Extends old (ExpectCall due slack) mid
-    → Extends mid (NowCall answer) new → Asks AreMoment old new
-asks_moment due slack answer old mid new first second =
-    asks_then {A = λ xs. xs ≡ ExpectCall due slack ∷ []} {B = λ ys. ys ≡ NowCall answer ∷ []}
-    (λ xs ys x y. rw (x, y) tt) old mid new
-    (asks_one _ _ old mid refl first) (asks_one _ _ mid new refl second)
-
-pub asks_accept : (answer : Result (Option ℕ) DoorFault) (old mid new : Trace) → Extends old (AcceptCall answer) mid
-    → Asks AreAboutPeers mid new → Asks AreAccept old new
-asks_accept answer old mid new first later =
-    asks_then {A = λ xs. xs ≡ AcceptCall answer ∷ []}
-    (λ xs ys x peers. rw x peers) old mid new
-    (asks_one _ _ old mid refl first) later
 
 pub turn_begins : (xs ys : List Call) → AreMoment xs → AreAccept ys → IsTurn (xs ++ ys)
 turn_begins (ExpectCall due slack ∷ NowCall answer ∷ []) ys x y = y
@@ -89,18 +71,7 @@ fair_each (calls ∷ all) h = all_append IsFair calls _ (fair_turn calls h.0) (f
 pub fair_turns : {count : ℕ} (calls : List Call) → AreTurns count calls → AllByRecursion IsFair calls
 fair_turns calls t = rw t.all at (fair_each (turns calls) t.each)
 
--- ---- what a door answers is within what it was asked
-
 -- ---- counting the failures of a door
-
--- one call failed, and was counted
-pub one_failed : (tally count tally_later count_later : ℕ) → tally ≤ count → tally_later ≡ one_more tally → count_later ≡ one_more count
-    → CountsFaults tally count tally_later count_later
-one_failed tally count _ _ le t c = record {
-  within = omega (arith, le, t, c);
-  onward = λ low. omega (arith, low, c);
-  exact = λ low. omega (arith, le, low, t, c);
-}
 
 -- no call failed
 pub none_failed : (tally count count_later : ℕ) → tally ≤ count → count_later ≡ count → CountsFaults tally count tally count_later
@@ -128,18 +99,6 @@ module _ {D : Type 0} (faults : D → ℕ) (trace : D → Trace) (limit : D → 
     counted = none_failed _ _ _ counted refl;
     asks = asks_none (trace s.door.now);
     same_limit = refl;
-  }
-
-  -- one call, about a peer
-  pub calls_one : (call : Call) (s t : Server D) → t.door.ghost_name ≡ s.door.ghost_name
-      → CountsFaults s.tally.faults (faults s.door.now) t.tally.faults (faults t.door.now) → is_of_peer call ≡ true → IsFair call
-      → Extends (trace s.door.now) call (trace t.door.now) → limit t.door.now ≡ limit s.door.now
-      → CallsDoor faults trace limit AreAboutPeers s t
-  calls_one call s t same counted of_peer fair tells limited = record {
-    same_door = same;
-    counted = counted;
-    asks = asks_one _ call _ _ (record { peers = rw of_peer refl; fair = (fair, tt) }) tells;
-    same_limit = limited;
   }
 
   -- some calls, and then others

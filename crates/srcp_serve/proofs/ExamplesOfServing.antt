@@ -1,7 +1,8 @@
 -- Told calls of three turns, and what they make happen.
-use Rattle.srcp_serve.proofs.Names.{◌≡◌, ℕ, true, false, List, [], ◌∷◌, ◌++◌, drop, length, ◌-◌, replicate, map, Some, None, Ok, Err, codes}
-use Rattle.srcp_serve.proofs.Names.{refl, Bus, sent, course, welcome, Open, Bytes, Room, At, Shut, giving, Call, ExpectCall, NowCall}
-use Rattle.srcp_serve.proofs.Names.{AcceptCall, ReadCall, WriteCall, CloseCall, FeedsWhatIsHanded, IsServed, SendsWhatIsTaken, events_of}
+use Rattle.srcp_serve.proofs.Names.{◌≡◌, ℕ, true, false, List, [], ◌∷◌, ◌++◌, drop, length, ◌-◌, replicate, map, Some, None, Ok, Err}
+use Rattle.srcp_serve.proofs.Names.{codes, refl, Bus, sent, course, welcome, Open, Bytes, Room, At, Shut, giving, Call, ExpectCall}
+use Rattle.srcp_serve.proofs.Names.{NowCall, AcceptCall, ReadCall, WriteCall, CloseCall, FeedsWhatIsHanded, IsServed, SendsWhatIsTaken}
+use Rattle.srcp_serve.proofs.Names.{events_of}
 use Rattle.std.specs.Fmt.{digits}
 use Rattle.srcp_door.specs.declared.door.DoorFault.TheVariants as fault
 use Rattle.srcp_door.specs.declared.door.Got.TheVariants as got
@@ -34,7 +35,8 @@ one_peer =
     ++ nobody ++ (ReadCall 1 (Ok got.Ended) (buffer (codes "GO\n")) [] ∷ CloseCall 1 (Ok tt) ∷ [])
 
 one_peer_makes : events_of buses one_peer
-    ≡ At 0 ∷ Open true ∷ Room 1 45 ∷ Room 1 0 ∷ At 0 ∷ Bytes 1 (giving (codes "GO\n")) ∷ Room 1 18 ∷ Room 1 0 ∷ At 0 ∷ Shut 1 ∷ []
+    ≡ At 0 ∷ Open true ∷ Room 1 0 ∷ Room 1 45 ∷ Room 1 0 ∷ At 0 ∷ Bytes 1 (giving (codes "GO\n")) ∷ Room 1 0 ∷ Room 1 18 ∷ Room 1 0
+    ∷ At 0 ∷ Shut 1 ∷ []
 one_peer_makes = refl
 
 one_peer_is_served : IsServedOf 3 one_peer ((welcome ++ go_line) ∷ [])
@@ -50,7 +52,7 @@ failing =
     ++ nobody
 
 failing_makes : events_of buses failing
-    ≡ At 0 ∷ Open true ∷ Room 1 45 ∷ Room 1 0 ∷ At 0 ∷ Bytes 1 (giving (codes "GO\n")) ∷ Room 1 0 ∷ Shut 1 ∷ At 0 ∷ []
+    ≡ At 0 ∷ Open true ∷ Room 1 0 ∷ Room 1 45 ∷ Room 1 0 ∷ At 0 ∷ Bytes 1 (giving (codes "GO\n")) ∷ Room 1 0 ∷ Shut 1 ∷ At 0 ∷ []
 failing_makes = refl
 
 failing_is_served : IsServedOf 3 failing (welcome ∷ [])
@@ -83,7 +85,7 @@ unread = asked_in (greeting ∷ []) ++ nobody ++ (ReadCall 1 (Err fault.Read) (r
 unread_is_served : IsServed buses 3 unread
 unread_is_served = record { turns_are = refl; asked = refl }
 
-unread_makes : events_of buses unread ≡ At 0 ∷ Open true ∷ Room 1 45 ∷ Room 1 0 ∷ At 0 ∷ Shut 1 ∷ At 0 ∷ []
+unread_makes : events_of buses unread ≡ At 0 ∷ Open true ∷ Room 1 0 ∷ Room 1 45 ∷ Room 1 0 ∷ At 0 ∷ Shut 1 ∷ At 0 ∷ []
 unread_makes = refl
 
 -- its end comes and it can't be closed, which is not tried again

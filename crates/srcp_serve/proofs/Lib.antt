@@ -8,6 +8,7 @@ mod VisitsFeedWhatIsHanded
 mod CallsByTurnAndPeer
 mod VisitsCarryStreams
 pub mod TurnsCarryStreams
+pub mod NumbersOfKeys
 pub mod SlotsAreTakenAndFreed
 pub mod CallsAreAdded
 pub mod WritesFollow
@@ -24,4 +25,5 @@ pub mod TurnsWeighEnough
 pub mod ReadsSparePanels
 pub mod PacesLeaveReserve
 pub mod Settling
-mod OneCallFollows
+mod ReadsFollow
+mod LendingsTellNothing

@@ -1,8 +1,7 @@
 -- The names that the proofs of this crate use.
 pub use Rattle.srcp_rules.specs.Steps.{stepped, updates_of, Began, Ended, Obeyed, Order, Step, effect}
-pub use Rattle.srcp_core.proofs.Agreement.CallLaws.{calls_agree, calls_lead}
 pub use Rattle.srcp_core.proofs.Agreement.MemoryAnswers.{none_denied}
-pub use Rattle.srcp_core.proofs.Agreement.NumbersAndKeys.{key_push, key_push_last, key_within, length_without, numbered_with, without_other}
+pub use Rattle.srcp_core.proofs.Agreement.NumbersAndKeys.{key_within, length_without, numbered_with}
 pub use Rattle.srcp_core.proofs.CourseLaws.EventsKeep.{IsAnswered, IsKept, IsPlain, kept_all, kept_fed, kept_lines, kept_shut}
 pub use Rattle.srcp_core.proofs.CourseLaws.EventsKeep.{numbered_after}
 pub use Rattle.srcp_core.proofs.CourseLaws.RoomGivesWhatIsOwed.{fitting_none, no_lists, took_within}
@@ -15,11 +14,9 @@ pub use Rattle.srcp_core.specs.Course.{World, answered, answered_as, at_connecti
 pub use Rattle.srcp_core.specs.Course.{entered, fault, fed_to, fresh, happens, history, history_from, is_info, new_lines, numbered}
 pub use Rattle.srcp_core.specs.Course.{open_connection, or_refused, replied, rows, shut_as, start, state, state_after, welcome}
 pub use Rattle.srcp_core.specs.Course.{with_numbered}
-pub use Rattle.srcp_core.specs.Held.{Held, at, open_count}
-pub use Rattle.srcp_core.specs.Machine.{IsAdmitted, IsNotAdmitted, IsReceived, advanced, bytes_fault, changed_at, finish_at, hung_up}
-pub use Rattle.srcp_core.specs.Machine.{let_out, slack_at, unsent_at, without_sent}
+pub use Rattle.srcp_core.specs.Past.{Past, Receives, Says, answer_at, course_of, denied, happened, hung_up, keyed, no_past, number}
+pub use Rattle.srcp_core.specs.Past.{number_from, number_in, refusal, room_for}
 pub use Rattle.srcp_core.specs.Recording.{key_of, without_key}
-pub use Rattle.srcp_core.specs.Stands.{StandsFor}
 pub use Rattle.srcp_core.specs.Under.{At, Bytes, Event, Heard, Open, Piece, Room, Shut, denied_by, giving}
 pub use Rattle.srcp_core.specs.Waits.{IsOverrun, IsPanel, brought, due_next, least, changes_left, slack}
 pub use Rattle.srcp_core.specs.declared.record.CoreFault.{CoreFault}
@@ -43,13 +40,13 @@ pub use Rattle.srcp_serve.specs.Serving.{falls_short, handed, is_about, is_close
 pub use Rattle.srcp_serve.specs.Serving.{lent_none_last, loses, loses_reading, moment_of, piece_of, question, reads_of, refuses, rooms}
 pub use Rattle.srcp_serve.specs.Serving.{stand_after, taken, taken_in, timed, turn_asks, turned, turns, turns_ask, unless_nil, visit}
 pub use Rattle.srcp_serve.specs.Serving.{visit_asks, visit_events, visited, visits_ask, with_accept, with_client, with_connection}
-pub use Rattle.srcp_serve.specs.Serving.{with_moment, writes_of}
+pub use Rattle.srcp_serve.specs.Serving.{rooms_of, with_moment, writes_of}
 pub use Rattle.srcp_serve.specs.Slots.{AcceptsOne, AreFreeFrom, Begins, ClientsDiffer, Connects, FromEveryState, HasVisited, IsInState}
 pub use Rattle.srcp_serve.specs.Slots.{IsSettled, IsSlotOf, MakesTurn, MayFree, Owns, ServesCourse, TakesMoment, VisitsSlot, VisitsSlots}
-pub use Rattle.srcp_serve.specs.Slots.{one_if}
+pub use Rattle.srcp_serve.specs.Slots.{one_if, told}
 pub use Rattle.srcp_serve.specs.Turns.{AreAboutPeers, AreAccept, AreMoment, AreTurns, Asks, IsTurn, is_of_peer}
-pub use Rattle.srcp_serve.specs.Visits.{AddsGiven, CountsAsked, Disconnects, FromEveryCourse, HasActed, HasWritten, Keys, Makes, ReadsIn}
-pub use Rattle.srcp_serve.specs.Visits.{Took, Visits, WritesOnce, WritesOut}
+pub use Rattle.srcp_serve.specs.Visits.{AddsGiven, Disconnects, HasActed, HasWritten, Keys, Makes, ReadsIn, Took, Visits, Went, WritesOnce}
+pub use Rattle.srcp_serve.specs.Visits.{WritesOut}
 pub use Rattle.srcp_door.specs.declared.door.DoorFault.{DoorFault}
 pub use Rattle.srcp_door.specs.declared.door.Got.{Got}
 pub use Rattle.srcp_serve.specs.declared.serving.visit.Client.{Client as Own}
@@ -58,7 +55,7 @@ pub use Rattle.srcp_serve.specs.declared.serving.visit.Wrote.TheVariants.{All, F
 pub use Rattle.std.proofs.Common.{Bool, Err, List, None, Ok, Option, Result, Some, [], add-one, add-zero, ap, append-nil, append_assoc}
 pub use Rattle.std.proofs.Common.{arith, codes, cond, drop, false, filter, if◌then◌else◌, inl, inr, length, length-append, length-drop}
 pub use Rattle.std.proofs.Common.{length-take, map, max, min, not, refl, replicate, subst, suc, sym, take, take-add, true, zero, ℕ, ⊎_elim}
-pub use Rattle.std.proofs.Common.{◌*◌, ◌++◌, ◌+◌, ◌-◌, ◌<◌, ◌==◌, ◌∙◌, ◌∷◌, ◌≡◌, ◌≤◌, ◌⊎◌}
+pub use Rattle.std.proofs.Common.{◌*◌, ◌++◌, ◌+◌, ◌-◌, ◌<◌, ◌==◌, ◌∙◌, ◌∷◌, ◌≡◌, ◌≢◌, ◌≤◌, ◌⊎◌}
 pub use Rattle.std.proofs.Math.Bool.{and-false, or-false}
 pub use Rattle.std.proofs.Math.Nat.{le_refl, min-eq_left, zero-min}
 pub use Rattle.std.proofs.Math.Seq.{take-append_seam, take-nil}

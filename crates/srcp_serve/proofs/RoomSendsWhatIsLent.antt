@@ -1,13 +1,15 @@
 -- What a connection lends and its peer then takes is what the course says was sent.
-use Rattle.srcp_serve.proofs.Names.{◌≡◌, ◌∙◌, ℕ, suc, ◌+◌, ◌-◌, ◌≤◌, min, Bool, true, false, List, [], ◌∷◌, ◌++◌, take, drop}
-use Rattle.srcp_serve.proofs.Names.{length, refl, ap, sym, arith, length-append, length-drop, take-add, append-nil, append_assoc, add-zero}
-use Rattle.srcp_serve.proofs.Names.{if◌then◌else◌, Option, Some, None, ◌<◌, flat_map, zero-min, min-eq_left, take-append-le}
-use Rattle.srcp_serve.proofs.Names.{drop_at, flat_map-append, Shown, Next, Connection, History, line_of, text, given, sent, unsent, prefix}
+use Rattle.srcp_serve.proofs.Names.{◌≡◌, ◌∙◌, ℕ, suc, ◌+◌, ◌-◌, ◌≤◌, min, Bool, true, false, List, [], ◌∷◌, ◌++◌, take, drop, length}
+use Rattle.srcp_serve.proofs.Names.{refl, ap, sym, arith, length-append, length-drop, take-add, append-nil, append_assoc, add-zero}
+use Rattle.srcp_serve.proofs.Names.{if◌then◌else◌, Option, Some, None, ◌<◌, flat_map, zero-min, min-eq_left, take-append-le, drop_at}
+use Rattle.srcp_serve.proofs.Names.{flat_map-append, Shown, Next, Connection, History, line_of, text, given, sent, unsent, prefix}
 use Rattle.srcp_serve.proofs.Names.{fitting, available, items_of, owed, overran, took, given_room, is_open, take-nil, fold-append}
 use Rattle.srcp_serve.proofs.Names.{same_Some, AllByRecursion, Event, Open, Bytes, Room, At, Shut, Bus, World, fresh, start, numbered}
-use Rattle.srcp_serve.proofs.Names.{open_connection, at_connection, counted, or_refused, happens, course, history, rows}
-use Rattle.srcp_serve.proofs.Names.{NoSuch, owed_plain, numbered_with, fitting_none, took_within, all_numbered, all_push, lent}
-use Rattle.srcp_serve.proofs.Names.{cond_both, is_none, opened, max}
+use Rattle.srcp_serve.proofs.Names.{open_connection, at_connection, counted, or_refused, happens, course, history, rows, NoSuch}
+use Rattle.srcp_serve.proofs.Names.{owed_plain, numbered_with, fitting_none, took_within, all_numbered, all_push, lent, cond_both}
+use Rattle.srcp_serve.proofs.Names.{is_none, opened, max, map, rooms_of, ◌==◌, and-false, eqb-true, eqb-false}
+use Rattle.srcp_core.specs.Connection.{exhausts}
+use Rattle.std.proofs.lemmas.Bool.{le-ltb}
 use Rattle.srcp_core.proofs.CourseLaws.LinesHaveBytes.{AreFull, owed_full}
 use Rattle.srcp_core.proofs.CourseLaws.SessionsOfACourse.{at_number}
 use Rattle.srcp_serve.proofs.OnlyRoomSends.{IsSteady, IsSending, event_keeps, sending_bytes, sending_shut}
@@ -146,6 +148,34 @@ steady_room bytes past shown conn s =
       within = took_within bytes _ _ conn s.within;
     })
 
+-- if something is unsent, room for none changes nothing
+took_nothing : (steps : ℕ) (nexts : List Next) (conn : Connection) (byte : ℕ) (left : List ℕ) → unsent conn ≡ byte ∷ left
+    → took 0 steps nexts conn ≡ conn
+took_nothing steps nexts conn byte left e =
+    let none : fitting 0 (unsent conn) nexts ≡ [] = rw e (fits_left 0 byte left nexts (omega arith)) in
+    let some : 1 ≤ length (available (byte ∷ left) nexts) = omega arith in
+    let goes_on : exhausts 0 (unsent conn) nexts ≡ false = rw e (le-ltb (length (available (byte ∷ left) nexts)) 1 some) in
+    let same : conn.taken + min 0 (length (available (unsent conn) nexts)) ≡ conn.taken = simp (zero-min, add-zero) in
+    rw (none, goes_on, same, append-nil, and-false) refl
+
+-- so what is lent then is lent again
+lends_again : (past : History) (shown : List Shown) (conn : Connection) → 0 < length (lends past shown conn)
+    → lends past shown (given_room 0 past shown conn) ≡ lends past shown conn
+lends_again past shown conn some = by (unsent now) refl
+  where
+    now : Connection
+    now = given_room 0 past shown conn
+
+    by : (left : List ℕ) → unsent now ≡ left → lends past shown now ≡ lends past shown conn
+    by [] e =
+        let none : lends past shown conn ≡ [] =
+        cond_both (overran now past) [] (unsent now) (λ (l : List ℕ). l ≡ []) (λ t. refl) (λ t. e) in
+        absurd (omega (arith, some, ap length none))
+    by (byte ∷ left) e =
+        let same : given_room 0 past shown now ≡ now = cond_both (overran now past) now (took 0 (length past) (owed now past shown) now)
+        (λ (c : Connection). c ≡ now) (λ t. refl) (λ t. took_nothing (length past) (owed now past shown) now byte left e) in
+        ap (λ (c : Connection). if overran c past then [] else unsent c) same
+
 module _ (buses : List Bus) where
   -- room for an open connection
   pub after_room : (events : List Event) (n bytes : ℕ) (conn : Connection) → open_connection (course buses events) n ≡ Some conn
@@ -204,6 +234,56 @@ module _ (buses : List Bus) where
           let next : course buses (events ++ Room n bytes ∷ []) ≡ or_refused buses (Some NoSuch) (Room n bytes) (counted w) =
           simp (fold-append, e) in
           rw (next, none, put_none n texts) a
+
+  -- what is lent is lent again
+  lent_again : (events : List Event) (n : ℕ) → 0 < length (lent buses n events)
+      → lent buses n (events ++ Room n 0 ∷ []) ≡ lent buses n events
+  lent_again events n some = by (open_connection (course buses events) n) refl
+    where
+      by : (o : Option Connection) → open_connection (course buses events) n ≡ o
+          → lent buses n (events ++ Room n 0 ∷ []) ≡ lent buses n events
+      by (Some conn) e =
+          let w = course buses events in
+          let past = history buses w in
+          let shown = rows buses w in
+          let next = after_room events n 0 conn e in
+          let stays = open_room 0 past shown conn ∙ ap is_none (opened _ conn e).1 in
+          let there : open_connection (course buses (events ++ Room n 0 ∷ [])) n ≡ Some (given_room 0 past shown conn) =
+          cc (there_after events n 0 conn e) in
+          let some_lent : 0 < length (lends past shown conn) = rw (lent_is events n conn e) at some in
+          cc (
+            lent_is (events ++ Room n 0 ∷ []) n (given_room 0 past shown conn) there,
+            lent_is events n conn e,
+            ap (history buses) next,
+            ap (rows buses) next,
+            lends_again past shown conn some_lent,
+          )
+      by None e =
+          let lends : course buses (events ++ Room n 0 ∷ []) ≡ or_refused buses (Some NoSuch) (Room n 0) (counted (course buses events)) =
+          simp (fold-append, e) in
+          let empty : lent buses n events ≡ [] = cc in
+          absurd (omega (arith, some, ap length empty))
+
+  -- so a write sends a prefix of it
+  pub sending_write : (events : List Event) (n bytes : ℕ) (texts : List (List ℕ)) → bytes ≤ length (lent buses n events)
+      → IsSending texts (course buses events).connections
+      → IsSending (put n (take bytes (lent buses n events)) texts) (course buses (events ++ map (Room n) (rooms_of bytes))).connections
+  sending_write events n bytes texts h a = by (bytes == 0) refl
+    where
+      now : List Event
+      now = events ++ Room n 0 ∷ []
+
+      lent_first : IsSending texts (course buses now).connections
+      lent_first = rw put_none at (sending_room events n 0 texts (omega arith) a)
+
+      by : (t : Bool) → (bytes == 0) ≡ t
+          → IsSending (put n (take bytes (lent buses n events)) texts) (course buses (events ++ map (Room n) (rooms_of bytes))).connections
+      by true e = rw (eqb-true bytes 0 e) (rw put_none lent_first)
+      by false e =
+          let none = eqb-false bytes 0 e in
+          let again = lent_again events n (omega (arith, h, none)) in
+          let sent = rw again at (sending_room now n bytes texts (rw again h) lent_first) in
+          rw e (rw append_assoc at sent)
 
   -- every connection of a course is steady
   steady_happens : (w : World) (event : Event) → AllByRecursion IsSteady w.connections

@@ -1,12 +1,13 @@
 -- Who has which slot: peers take slots and free them, and a round visits those that have one.
 use Rattle.srcp_serve.proofs.Names.{◌≡◌, ◌∙◌, ℕ, List, [], ◌∷◌, ◌++◌, map, refl, ap, sym, append-nil, append_assoc, zero, suc, ◌+◌, ◌≤◌}
-use Rattle.srcp_serve.proofs.Names.{true, false, ◌==◌, cond, length, if◌then◌else◌, Option, Some, None, subst, arith, filter, flat_map, not}
-use Rattle.srcp_serve.proofs.Names.{is_some, is_none, position, nat_lt, ◌||◌, filter-append, list_any, count_by, slice_index_or, slice_set}
-use Rattle.srcp_serve.proofs.Names.{prefix_len, AllByRecursion, AllZip, Event, Shut, filter-map, Bus, Call, IsSlotOf, ClientsDiffer}
-use Rattle.srcp_serve.proofs.Names.{IsInState, Owns, is_about, asks_of, visit, visit_asks, visits_ask, visit_events, exchange, is_close}
-use Rattle.srcp_serve.proofs.Names.{Client, Stand, with_client, clients, kept, Slots, question, Keys, sum_by-cons, course, Held, key_of}
-use Rattle.srcp_serve.proofs.Names.{without_key, StandsFor, key_push, key_within, without_other, Own, cond_both, eqb-false, ltb-false}
-use Rattle.srcp_serve.proofs.Names.{ne_eqb, or_from, or_parts, all_weaker, filter_map-append}
+use Rattle.srcp_serve.proofs.Names.{true, false, ◌==◌, cond, length, if◌then◌else◌, Option, Some, None, subst, arith, filter, flat_map}
+use Rattle.srcp_serve.proofs.Names.{not, is_some, is_none, position, nat_lt, ◌||◌, filter-append, list_any, count_by, slice_index_or}
+use Rattle.srcp_serve.proofs.Names.{slice_set, prefix_len, AllByRecursion, AllZip, Event, Shut, filter-map, Bus, Call, IsSlotOf}
+use Rattle.srcp_serve.proofs.Names.{ClientsDiffer, Owns, is_about, asks_of, visit, visit_asks, visits_ask, visit_events, exchange}
+use Rattle.srcp_serve.proofs.Names.{is_close, Client, with_client, clients, kept, Slots, question, Keys, sum_by-cons, key_of, without_key}
+use Rattle.srcp_serve.proofs.Names.{key_within, Own, cond_both, eqb-false, ltb-false, ne_eqb, or_from, or_parts, all_weaker}
+use Rattle.srcp_serve.proofs.Names.{filter_map-append}
+use Rattle.srcp_serve.proofs.NumbersOfKeys.{number_named, number_push, number_without}
 use Rattle.std.specs.List.{IsDistinct}
 use Rattle.srcp_serve.proofs.VisitsCarryStreams.{connected_all}
 use Rattle.srcp_serve.proofs.VisitsFollow.{AreAbout}
@@ -93,14 +94,6 @@ module _ (buses : List Bus) where
         append_assoc (visit_asks buses events (visit calls client) client) _ _,
       )
 
--- ---- which peer has which slot, who takes one and who frees one
-
--- the slots stay, and the core goes on to the course of these events
-pub in_state_on : (buses : List Bus) (stand : Stand) (events : List Event) (keys : Keys) (old held : Held)
-    (owns : Owns) → IsInState buses stand keys old owns → StandsFor buses keys held (course buses events)
-    → IsInState buses (record stand { events = events }) keys held owns
-in_state_on buses stand events keys old held owns h stands = assumption
-
 -- ---- how many
 
 pub count_cons : {X : Type 0} (o : Option X) (xs : List (Option X)) → count_by is_some (o ∷ xs) ≡ cond (is_some o) 1 0 + count_by is_some xs
@@ -151,7 +144,7 @@ pub owns_kept : (n : ℕ) (keys : Keys) (owns : Owns) (slots : Slots) → HasNoN
 owns_kept n keys [] [] free h = tt
 owns_kept n keys (None ∷ owns) (None ∷ slots) free h = (tt, owns_kept n keys owns slots free h.1)
 owns_kept n keys (Some own ∷ owns) (Some client ∷ slots) free h = (
-  (h.0.0, without_other n client.conn keys (λ same. eqb-false n client.conn free.0 (sym same)) ∙ h.0.1),
+  (h.0.0, number_without n own.key keys (λ same. eqb-false n client.conn free.0 (sym same ∙ h.0.1)) ∙ h.0.1, h.0.2),
   owns_kept n keys owns slots free.1 h.1,
 )
 owns_kept n keys owns slots free h = search
@@ -168,7 +161,7 @@ few_slots keys (None ∷ owns) (None ∷ slots) h d = omega (arith, few_slots ke
 few_slots keys (Some own ∷ owns) (Some client ∷ slots) h d =
     let n : ℕ = client.conn in
     let ih = few_slots (without_key n keys) owns slots (owns_kept n keys owns slots (numbers_after client slots d.0) h.1) d.1 in
-    omega (arith, ih, count_cons (Some client) slots, count_without n keys own.key h.0.1)
+    omega (arith, ih, count_cons (Some client) slots, count_without n keys own.key (number_named n own.key keys h.0.1 h.0.2))
 few_slots keys owns slots h d = search
 
 -- what holds of all that have a slot holds of the one in the middle, and of the others
@@ -202,7 +195,7 @@ pub owns_pushed : (keys : Keys) (key : ℕ) (owns : Owns) (slots : Slots) → Ar
 owns_pushed keys key [] [] h = tt
 owns_pushed keys key (None ∷ owns) (None ∷ slots) h = (tt, owns_pushed keys key owns slots h.1)
 owns_pushed keys key (Some own ∷ owns) (Some client ∷ slots) h = (
-  (h.0.0, key_push client.conn keys (Some key) (key_within client.conn keys own.key h.0.1).1 ∙ h.0.1),
+  (h.0.0, number_push own.key keys (Some key) (rw h.0.1 h.0.2) ∙ h.0.1, h.0.2),
   owns_pushed keys key owns slots h.1,
 )
 owns_pushed keys key owns slots h = search
@@ -255,7 +248,7 @@ pub new_apart : (keys : Keys) (client : Client) (owns : Owns) (slots : Slots) �
 new_apart keys client [] [] h e new = tt
 new_apart keys client (None ∷ owns) (None ∷ slots) h e new = new_apart keys client owns slots h.1 e new
 new_apart keys client (Some own ∷ owns) (Some other ∷ slots) h e new =
-    let within = (key_within other.conn keys own.key h.0.1).1 in
+    let within = (key_within other.conn keys own.key (number_named other.conn own.key keys h.0.1 h.0.2)).1 in
     let no = ne_eqb client.conn other.conn (λ same. omega (arith, e, within, same)) in
     (or_from (client.conn == other.conn) _ no new.0, new_apart keys client owns slots h.1 e new.1)
 new_apart keys client owns slots h e new = search

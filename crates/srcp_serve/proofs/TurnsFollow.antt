@@ -1,21 +1,21 @@
 -- A turn follows the course: its accept, and its visits.
 use Rattle.srcp_serve.proofs.Names.{◌≡◌, ◌∙◌, ℕ, ◌+◌, Bool, true, false, ◌==◌, List, [], ◌∷◌, ◌++◌, map, fold, length, if◌then◌else◌}
-use Rattle.srcp_serve.proofs.Names.{Option, Some, Ok, Err, Result, refl, ap, sym, subst, arith, append_assoc, append-nil, nat_tests}
-use Rattle.srcp_serve.proofs.Names.{map-append, filter_map-append, list_any-append, list_all, list_any, filter_map, AllByRecursion, ◌||◌}
-use Rattle.srcp_serve.proofs.Names.{flat_map, Bus, course, Held, StandsFor, Open, filter_no_one, DoorCall, Extends, PeersDiffer, peer_of}
-use Rattle.srcp_serve.proofs.Names.{Trace, Accepted, Call, ExpectCall, NowCall, AcceptCall, CloseCall, door_call, Client, Closes, Stand}
-use Rattle.srcp_serve.proofs.Names.{Expects, Moments, expects, Accepts, IsFair, question, moment_of, accept_of, clients, is_about, kept}
-use Rattle.srcp_serve.proofs.Names.{visit_events, visits_ask, connects, with_connection, with_accept, with_moment, timed, begun, turned}
-use Rattle.srcp_serve.proofs.Names.{turn_asks, refuses, Slots, IsInState, one_if, AcceptsOne, MakesTurn, Connects, TakesMoment, VisitsSlots}
-use Rattle.srcp_serve.proofs.Names.{Owns, AreAccept, Asks, AreAboutPeers, IsTurn, is_of_peer, Keys, Makes, DoorFault, or_cases, or_right}
-use Rattle.srcp_serve.proofs.Names.{⊎_elim, all_weaker}
+use Rattle.srcp_serve.proofs.Names.{Option, Some, Ok, Err, Result, refl, ap, sym, arith, append_assoc, append-nil, nat_tests, map-append}
+use Rattle.srcp_serve.proofs.Names.{filter_map-append, list_any-append, list_all, list_any, filter_map, AllByRecursion, ◌||◌, flat_map}
+use Rattle.srcp_serve.proofs.Names.{Bus, Past, course_of, denied, told, At, Open, due_next, slack, filter_no_one, DoorCall, Extends}
+use Rattle.srcp_serve.proofs.Names.{PeersDiffer, peer_of, Trace, Accepted, Call, ExpectCall, NowCall, AcceptCall, CloseCall, door_call}
+use Rattle.srcp_serve.proofs.Names.{Client, Closes, Stand, Expects, Moments, expects, Accepts, IsFair, question, moment_of, accept_of}
+use Rattle.srcp_serve.proofs.Names.{clients, is_about, kept, visit_events, visits_ask, connects, with_connection, with_accept}
+use Rattle.srcp_serve.proofs.Names.{with_moment, timed, begun, turned, turn_asks, refuses, Slots, IsInState, one_if, AcceptsOne}
+use Rattle.srcp_serve.proofs.Names.{MakesTurn, Connects, TakesMoment, VisitsSlots, Owns, AreAccept, Asks, AreAboutPeers, IsTurn}
+use Rattle.srcp_serve.proofs.Names.{is_of_peer, Makes, DoorFault, or_cases, or_right, ⊎_elim, all_weaker}
 use Rattle.std.specs.List.{IsDistinct}
 use Rattle.srcp_serve.proofs.VisitsSendWhatIsTaken.{all_parts}
 use Rattle.srcp_serve.proofs.VisitsCarryStreams.{connected_all, kept_all}
 use Rattle.srcp_serve.proofs.VisitsFollow.{closing_call}
 use Rattle.srcp_serve.proofs.CallsByTurnAndPeer.{accept_as, fold_keeps, same_peer}
 use Rattle.srcp_serve.proofs.SlotsAreTakenAndFreed.{AreOf, HasNone, NoVisits, SameVisits, same_asked, same_kept, same_made, second_visits}
-use Rattle.srcp_serve.proofs.CallsAreAdded.{adds_one, adds_then, asked_moment, given_then, makes_then, same_calls}
+use Rattle.srcp_serve.proofs.CallsAreAdded.{adds_one, adds_then, denied_more, given_then, makes_then, same_calls}
 use Rattle.srcp_serve.proofs.TurnsCarryStreams.{differ_last, peers_trace}
 use Rattle.srcp_door.specs.Calls as door
 
@@ -114,11 +114,21 @@ module _ (buses : List Bus) where
   connected_timed (Ok moment) stand = refl
   connected_timed (Err failed) stand = refl
 
-  in_state_timed : (answer : Result ℕ DoorFault) (stand : Stand) (keys : Keys) (old held : Held) (owns : Owns)
-      → IsInState buses stand keys old owns → StandsFor buses keys held (course buses (timed buses stand (NowCall answer ∷ [])).events)
-      → IsInState buses (timed buses stand (NowCall answer ∷ [])) keys held owns
-  in_state_timed (Ok moment) stand keys old held owns h stands = assumption
-  in_state_timed (Err failed) stand keys old held owns h stands = assumption
+  in_state_timed : (answer : Result ℕ DoorFault) (stand : Stand) (old new : Past) (owns : Owns) → IsInState buses stand old owns
+      → new ≡ told answer old → IsInState buses (timed buses stand (NowCall answer ∷ [])) new owns
+  in_state_timed (Ok moment) stand old new owns h is = rw is (record {
+    layout = h.layout;
+    events = ap (λ es. es ++ At moment ∷ []) h.events;
+    owns_are = h.owns_are;
+    differ = h.differ;
+    long = h.long;
+  })
+  in_state_timed (Err failed) stand old new owns h is = rw is h
+
+-- a moment asks for no memory
+denied_told : (answer : Result ℕ DoorFault) (old new : Past) → new ≡ told answer old → denied new ≡ denied old
+denied_told (Ok moment) old new is = rw is (denied_more (At moment) old)
+denied_told (Err failed) old new is = rw is refl
 
 -- ---- the accept of a turn
 
@@ -127,35 +137,33 @@ abbrev pub AcceptsNone : Result (Option ℕ) DoorFault → Type 0
 AcceptsNone (Ok (Some peer)) = ⊥
 AcceptsNone other = Unit {0}
 
-pub accepts_nobody : (old : Held) (trace_old trace_new : Trace) (owns : Owns) (answer : Result (Option ℕ) DoorFault)
+pub accepts_nobody : (old : Past) (trace_old trace_new : Trace) (owns : Owns) (answer : Result (Option ℕ) DoorFault)
     → AcceptsNone answer → Extends trace_old (door.AcceptCall answer) trace_new → AcceptsOne old trace_old owns old trace_new owns false
-accepts_nobody old trace_old trace_new owns (Ok (Some peer)) none h buses stand keys trace in_state is peers calls adds differ known =
+accepts_nobody old trace_old trace_new owns (Ok (Some peer)) none h buses stand trace in_state is peers calls adds differ known =
     absurd none
-accepts_nobody old trace_old trace_new owns answer none h buses stand keys trace in_state is peers calls adds differ known = (
+accepts_nobody old trace_old trace_new owns answer none h buses stand trace in_state is peers calls adds differ known = (
   answer,
   true,
   record {
     early = [];
-    keys = keys;
     adds = adds_one (door.AcceptCall answer) trace_old trace_new trace h is;
     counted = refl;
-    asked_for = λ first e. e;
     asked = refl;
     in_state = in_state;
     opened = omega arith;
   },
 )
 
-pub accepts_peer : (peer : ℕ) (opens : Bool) (old new : Held) (trace_old trace_mid trace_new : Trace)
+pub accepts_peer : (peer : ℕ) (opens : Bool) (old new : Past) (trace_old trace_mid trace_new : Trace)
     (owns owns_new : Owns)
     → Extends trace_old (door.AcceptCall (Ok (Some peer))) trace_mid → Asks AreAboutPeers trace_mid trace_new
     → Connects old trace_mid owns new trace_new owns_new peer opens → AcceptsOne old trace_old owns new trace_new owns_new opens
-accepts_peer peer opens old new trace_old trace_mid trace_new owns owns_new h asks own_is buses stand keys trace in_state is peers calls
+accepts_peer peer opens old new trace_old trace_mid trace_new owns owns_new h asks own_is buses stand trace in_state is peers calls
     adds differ known =
     let later = asks trace is in
     let first = adds_one _ trace_old trace_mid later.1.before h later.1.was in
     let apart = rw (same_calls adds (adds_then later.1.was first later.1)) at differ in
-    let x = own_is buses stand keys trace in_state is (new_peer peers (Ok (Some peer)) later.0 stand.slots apart known peer refl) in
+    let x = own_is buses stand trace in_state is (new_peer peers (Ok (Some peer)) later.0 stand.slots apart known peer refl) in
     let settled = x.1 in
     let all = given_then (AcceptCall (Ok (Some peer)) x.0 ∷ []) settled.early later.1.was first settled.adds in
     (Ok (Some peer), x.0, search)
@@ -222,48 +230,48 @@ module _ (buses : List Bus) (stand : Stand) (due slack : Option ℕ) (now : Resu
           cc (timed_is, accepts_are, begun_is, asks_second) in
           cc (map-append question early seen)
 
-pub makes_turn : (opens : Bool) (old mid between new : Held) (trace_old trace_mid trace_between trace_new : Trace)
+pub makes_turn : (opens : Bool) (old mid between new : Past) (trace_old trace_mid trace_between trace_new : Trace)
     (owns_old owns owns_new : Owns)
-    → TakesMoment old trace_old mid trace_mid → mid.denied ≡ old.denied → Asks AreAccept trace_mid trace_between
+    → TakesMoment old trace_old mid trace_mid → Asks AreAccept trace_mid trace_between
     → AcceptsOne mid trace_mid owns_old between trace_between owns opens
     → Asks AreAboutPeers trace_between trace_new → VisitsSlots between trace_between owns new trace_new owns_new
     → Asks IsTurn trace_old trace_new
     → MakesTurn old trace_old owns_old new trace_new owns_new opens
-makes_turn opens old mid between new trace_old trace_mid trace_between trace_new owns_old owns owns_new moment same_count asks_in
-    accepts_one
-    asks_visits visits asks_turn buses stand keys trace in_state is peers calls adds differ known =
+makes_turn opens old mid between new trace_old trace_mid trace_between trace_new owns_old owns owns_new moment asks_in accepts_one
+    asks_visits visits asks_turn buses stand trace in_state is peers calls adds differ known =
     let later = asks_visits trace is in
     let w = later.1 in
     let one = asks_in w.before w.was in
     let v = one.1 in
-    let t = moment owns_old buses stand keys v.before in_state v.was in
+    let t = moment v.before v.was in
+    let due = due_next old.buses (course_of old) in
+    let room = slack old.buses (course_of old) in
     let first_stand = timed buses stand (NowCall t.answer ∷ []) in
-    let in_state_then = in_state_timed buses t.answer stand keys old mid owns_old in_state t.stands in
+    let in_state_then = in_state_timed buses t.answer stand old mid owns_old in_state t.is in
     let in_calls = one.0 in
     let whole = same_calls adds (adds_then w.was (adds_then v.was t.adds v) w) in
-    let differ_in = peers_prefix peers (door.ExpectCall t.due t.slack ∷ door.NowCall t.answer ∷ in_calls) later.0 (rw whole at differ) in
+    let differ_in = peers_prefix peers (door.ExpectCall due room ∷ door.NowCall t.answer ∷ in_calls) later.0 (rw whole at differ) in
     let known_first = known_moments buses (filter_map moment_of (NowCall t.answer ∷ [])) peers stand known in
-    let b = accepts_one buses first_stand keys w.before in_state_then w.was peers in_calls v differ_in known_first in
+    let b = accepts_one buses first_stand w.before in_state_then w.was peers in_calls v differ_in known_first in
     let second_stand = fold (with_accept buses) first_stand (filter_map accept_of (AcceptCall b.0 b.1 ∷ [])) in
-    let x = visits buses second_stand b.2.keys trace b.2.in_state is in
+    let x = visits buses second_stand trace b.2.in_state is in
     let others =
     early_seen buses first_stand b.0 b.1 b.2.early
     (new_peer peers b.0 (map door_call b.2.early) first_stand.slots (rw (same_calls v b.2.adds) at differ_in) known_first) b.2.asked in
-    let all = ExpectCall t.due t.slack ∷ NowCall t.answer ∷ AcceptCall b.0 b.1 ∷ (b.2.early ++ x.calls) in
-    let first_made : Makes buses stand.events first_stand.events (ExpectCall t.due t.slack ∷ NowCall t.answer ∷ []) trace_old v.before
-    old mid =
-    record { adds = t.adds; counted = same_count; asked_for = asked_moment buses t.answer stand old mid same_count } in
-    let second_made : Makes buses first_stand.events second_stand.events (AcceptCall b.0 b.1 ∷ b.2.early) trace_mid w.before
-    mid between = record { adds = b.2.adds; counted = b.2.counted; asked_for = b.2.asked_for } in
+    let all = ExpectCall due room ∷ NowCall t.answer ∷ AcceptCall b.0 b.1 ∷ (b.2.early ++ x.calls) in
+    let first_made : Makes (ExpectCall due room ∷ NowCall t.answer ∷ []) trace_old v.before old mid =
+    record { adds = t.adds; counted = denied_told t.answer old mid t.is } in
+    let second_made : Makes (AcceptCall b.0 b.1 ∷ b.2.early) trace_mid w.before mid between =
+    record { adds = b.2.adds; counted = b.2.counted } in
     let made = makes_then w.was (makes_then v.was first_made second_made) x.made in
     let turned_then = asks_turn trace is in
     let of_peers = (rw (same_calls turned_then.1 made.adds) at turned_then.2).peers in
-    let ends = turned_is buses stand t.due t.slack t.answer b.0 b.1 b.2.early x.calls of_peers others in
+    let ends = turned_is buses stand due room t.answer b.0 b.1 b.2.early x.calls of_peers others in
+    let told_it : Expects due room ≡ expects buses stand.events = rw (in_state.layout, in_state.events) refl in
     record {
       calls = all;
-      keys = x.keys;
-      made = subst (λ (s : Stand). Makes buses stand.events s.events all trace_old trace old new) (sym ends) made;
-      asked = turn_asked buses stand t.due t.slack t.answer b.0 b.1 b.2.early x.calls of_peers others t.asked b.2.asked x.asked;
+      made = made;
+      asked = turn_asked buses stand due room t.answer b.0 b.1 b.2.early x.calls of_peers others told_it b.2.asked x.asked;
       in_state = rw ends x.in_state;
       opened =
           ap (λ (s : Stand). length s.connected) ends ∙ b.2.opened

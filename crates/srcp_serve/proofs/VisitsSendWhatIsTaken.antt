@@ -1,13 +1,14 @@
 -- What the calls of a visit say was taken of a peer is what its events send.
 use Rattle.srcp_serve.proofs.Names.{◌≡◌, ◌∙◌, ℕ, zero, suc, ◌≤◌, Bool, true, false, not, List, [], ◌∷◌, ◌++◌, map, take, length}
 use Rattle.srcp_serve.proofs.Names.{if◌then◌else◌, Ok, Err, refl, ap, sym, subst, arith, append-nil, append_assoc, ◌==◌, ◌<◌, ◌||◌}
-use Rattle.srcp_serve.proofs.Names.{filter_map, list_all, list_any, AllByRecursion, nat_tests, flat_map-append, map-append}
-use Rattle.srcp_serve.proofs.Names.{filter_map-append, fold-append, Bus, Piece, Event, Bytes, Room, Shut, World, start, happens, course}
-use Rattle.srcp_serve.proofs.Names.{Call, WriteCall, Question, Reads, Writes, Closes, Client, question, IsFair, taken, taken_in, piece_of}
-use Rattle.srcp_serve.proofs.Names.{count_of, is_close, loses, loses_reading, lent_none_last, exchange, is_ready, is_closing, lent, handed}
-use Rattle.srcp_serve.proofs.Names.{unless_nil, reads_of, writes_of, closes_of, visit_asks, cond_both, take-nil, is_about, sent}
+use Rattle.srcp_serve.proofs.Names.{filter_map, flat_map, rooms_of, list_all, list_any, AllByRecursion, nat_tests, flat_map-append}
+use Rattle.srcp_serve.proofs.Names.{map-append, filter_map-append, fold-append, Bus, Piece, Event, Bytes, Room, Shut, World, start}
+use Rattle.srcp_serve.proofs.Names.{happens, course, Call, WriteCall, Question, Reads, Writes, Closes, Client, question, IsFair, taken}
+use Rattle.srcp_serve.proofs.Names.{taken_in, piece_of, count_of, is_close, loses, loses_reading, lent_none_last, exchange, is_ready}
+use Rattle.srcp_serve.proofs.Names.{is_closing, lent, handed, unless_nil, reads_of, writes_of, closes_of, visit_asks, cond_both, take-nil}
+use Rattle.srcp_serve.proofs.Names.{is_about, sent}
 use Rattle.srcp_serve.proofs.OnlyRoomSends.{IsSending, sending_bytes, sending_shut}
-use Rattle.srcp_serve.proofs.RoomSendsWhatIsLent.{sending_room, steady_course}
+use Rattle.srcp_serve.proofs.RoomSendsWhatIsLent.{sending_room, sending_write, steady_course}
 use Rattle.srcp_serve.proofs.Stream.{Stream, asks_bytes, made_of, put, put_none, put_put}
 
 -- ---- calls by their questions
@@ -84,7 +85,7 @@ module _ (buses : List Bus) (peer conn : ℕ) where
   WritesSend calls =
       (most : ℕ) (events : List Event) (texts : List (List ℕ))
       → map question calls ≡ map (Writes peer) (take most (handed buses conn events (filter_map count_of calls))) → Sends texts events
-      → Sends (put conn (taken peer calls) texts) (events ++ map (Room conn) (filter_map count_of calls))
+      → Sends (put conn (taken peer calls) texts) (events ++ map (Room conn) (flat_map rooms_of (filter_map count_of calls)))
 
   then_sends : (calls : List Call) → WritesSend calls → (most count : ℕ) (events : List Event) (texts : List (List ℕ))
       → count ≤ length (lent buses conn events)
@@ -92,19 +93,22 @@ module _ (buses : List Bus) (peer conn : ℕ) where
       ≡ map (Writes peer)
       (take most
       (if count == length (lent buses conn events)
-      then handed buses conn (events ++ Room conn count ∷ []) (filter_map count_of calls) else []))
+      then handed buses conn (events ++ map (Room conn) (rooms_of count)) (filter_map count_of calls) else []))
       → Sends texts events
       → Sends (put conn (take count (lent buses conn events) ++ taken peer calls) texts)
-      (events ++ (Room conn count ∷ map (Room conn) (filter_map count_of calls)))
+      (events ++ map (Room conn) (rooms_of count ++ flat_map rooms_of (filter_map count_of calls)))
   then_sends calls ih most count events texts h e a =
-      let one = sending_room buses events conn count texts h a in
-      let next = events ++ Room conn count ∷ [] in
+      let one = sending_write buses events conn count texts h a in
+      let next = events ++ map (Room conn) (rooms_of count) in
       let sent = put conn (take count (lent buses conn events)) texts in
       let all = cond_both (count == length (lent buses conn events)) (handed buses conn next (filter_map count_of calls)) []
       (λ (ts : List (List ℕ)). map question calls ≡ map (Writes peer) (take most ts)
-      → Sends (put conn (taken peer calls) sent) (next ++ map (Room conn) (filter_map count_of calls)))
+      → Sends (put conn (taken peer calls) sent) (next ++ map (Room conn) (flat_map rooms_of (filter_map count_of calls))))
       (λ t q. ih most next sent q one) (λ t q. ih 0 next sent (q ∙ simp take-nil) one) e in
-      rw put_put at (rw append_assoc at all)
+      let later = flat_map rooms_of (filter_map count_of calls) in
+      let joined : next ++ map (Room conn) later ≡ events ++ map (Room conn) (rooms_of count ++ later) =
+      cc (append_assoc events (map (Room conn) (rooms_of count)) (map (Room conn) later), map-append (Room conn) (rooms_of count) later) in
+      rw put_put at (rw joined at all)
 
   taken_here : (who count : ℕ) (bytes now : List ℕ) → who ≡ peer → bytes ≡ now
       → (if who == peer then take count bytes else []) ≡ take count now
@@ -183,10 +187,15 @@ module _ (buses : List Bus) (client : Client) (events : List Event) (calls : Lis
             );
       }
 
+  -- the room of writes that took so many bytes
+  abbrev roomed_by : List ℕ → List Event
+  roomed_by counts = map (Room client.conn) (flat_map rooms_of counts)
+
   joined : (room : List ℕ) (shut : List Event)
-      → ((read_events ++ map (Room client.conn) (filter_map count_of calls)) ++ map (Room client.conn) room) ++ shut
+      → ((read_events ++ roomed_by (filter_map count_of calls)) ++ map (Room client.conn) room) ++ shut
       ≡ events
-      ++ ((map (Bytes client.conn) (filter_map piece_of calls) ++ map (Room client.conn) (filter_map count_of calls ++ room)) ++ shut)
+      ++ ((map (Bytes client.conn) (filter_map piece_of calls)
+      ++ map (Room client.conn) (flat_map rooms_of (filter_map count_of calls) ++ room)) ++ shut)
   joined room shut = simp (append_assoc, map-append)
 
   -- what the calls of a visit say was taken is sent
@@ -198,17 +207,16 @@ module _ (buses : List Bus) (client : Client) (events : List Event) (calls : Lis
       let now = put client.conn (taken client.peer calls) texts in
       let read = sends_bytes buses client.peer client.conn texts events (filter_map piece_of calls) a in
       let writing = sending_writes buses client.peer client.conn h.writes (h.each IsFair fair) in
-      let wrote : IsSending now (course buses (read_events ++ map (Room client.conn) (filter_map count_of calls))).connections =
+      let wrote : IsSending now (course buses (read_events ++ roomed_by (filter_map count_of calls))).connections =
       rw (h.took, h.counts) (cond_both (list_any loses_reading calls) []
       (map (Writes client.peer) (take 300 (handed buses client.conn read_events (filter_map count_of calls))))
       (λ (qs : List Question). map question h.writes ≡ qs
       → IsSending (put client.conn (taken client.peer h.writes) texts)
-      (course buses (read_events ++ map (Room client.conn) (filter_map count_of h.writes))).connections)
+      (course buses (read_events ++ roomed_by (filter_map count_of h.writes))).connections)
       (λ t q. writing 0 read_events texts q read) (λ t q. writing 300 read_events texts (rw h.counts at q) read) h.asked) in
       let roomed =
-      last_room buses client.peer client.conn (read_events ++ map (Room client.conn) (filter_map count_of calls)) now
-      (lent_none_last calls) wrote in
-      rw joined at (last_shut buses client.peer client.conn ((read_events ++ map (Room client.conn) (filter_map count_of calls))
+      last_room buses client.peer client.conn (read_events ++ roomed_by (filter_map count_of calls)) now (lent_none_last calls) wrote in
+      rw joined at (last_shut buses client.peer client.conn ((read_events ++ roomed_by (filter_map count_of calls))
       ++ map (Room client.conn) (if lent_none_last calls then 0 ∷ [] else [])) now (list_any is_close calls) roomed)
 
 -- ---- the stream to the peers

@@ -1,7 +1,7 @@
 -- The calls of a door, each with the answers of memory in the event that it makes.
 use Rattle.std.specs.Prelude.{◌≡◌, ℕ, Bool, IsTrue, List, [], ◌∷◌, flat_map, Option, Some, Result, Ok}
 use Rattle.std.specs.List.{AllByRecursion}
-use Rattle.srcp_core.specs.Held.{Held}
+use Rattle.srcp_core.specs.Past.{Past, denied}
 use Rattle.srcp_core.specs.Under.{denied_by}
 use Rattle.srcp_door.specs.Calls.{Call as DoorCall}
 use Rattle.srcp_door.specs.declared.door.DoorFault.{DoorFault}
@@ -38,12 +38,12 @@ abbrev pub answers_of : List Call → List Bool
 answers_of calls = flat_map answers_in calls
 
 -- from `old` to `new`, the core counted exactly the refusals of memory in these calls
-abbrev pub CountsRefusals : (old : Held) → List Call → (new : Held) → Type 0
-CountsRefusals old calls new = new.denied ≡ denied_by old.denied (answers_of calls)
+abbrev pub CountsRefusals : (old : Past) → List Call → (new : Past) → Type 0
+CountsRefusals old calls new = denied new ≡ denied_by (denied old) (answers_of calls)
 
 -- if the core counted no refusal, memory was given in all of these calls
 abbrev pub GivesUnlessCounted : Type 0
-GivesUnlessCounted = (old : Held) (calls : List Call) (new : Held) → CountsRefusals old calls new → new.denied ≡ 0
+GivesUnlessCounted = (old : Past) (calls : List Call) (new : Past) → CountsRefusals old calls new → denied new ≡ 0
     → AllByRecursion IsTrue (answers_of calls)
 
 -- a peer that was accepted, and whether its connection was given memory

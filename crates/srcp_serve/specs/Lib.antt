@@ -1,4 +1,5 @@
 pub mod Given
+pub mod Lendings
 pub mod Pacing
 pub mod Slots
 pub mod Serving

@@ -175,9 +175,13 @@ abbrev pub lent_none_last : List Call → Bool
 lent_none_last calls =
     not (list_any loses calls) && (not (list_any falls_short calls) && nat_lt (count_by is_write calls) most_writes)
 
--- the room that the visit made: what each write took, and 0 if at last no bytes were lent
+-- the room of a write: none as its bytes are lent, and then what the peer took, if any
+abbrev pub rooms_of : ℕ → List ℕ
+rooms_of count = 0 ∷ (if count == 0 then [] else count ∷ [])
+
+-- the room that the visit made: that of each write, and none if at last no bytes were lent
 abbrev pub rooms : List Call → List ℕ
-rooms calls = filter_map count_of calls ++ (if lent_none_last calls then 0 ∷ [] else [])
+rooms calls = flat_map rooms_of (filter_map count_of calls) ++ (if lent_none_last calls then 0 ∷ [] else [])
 
 -- the events of the read, and then those of the writes
 abbrev pub exchange : ℕ → List Call → List Event
@@ -274,7 +278,8 @@ module _ (buses : List Bus) where
   abbrev pub handed : ℕ → List Event → List ℕ → List (List ℕ)
   handed conn events [] = unless_nil (lent conn events) []
   handed conn events (count ∷ counts) = unless_nil (lent conn events)
-      (if count == length (lent conn events) then handed conn (events ++ Room conn count ∷ []) counts else [])
+      (if count == length (lent conn events)
+      then handed conn (events ++ map (Room conn) (rooms_of count)) counts else [])
 
   -- a visit begins with one read of a piece, if the connection accepts bytes
   abbrev pub reads_of : List Event → Client → List Question

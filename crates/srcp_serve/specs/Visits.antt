@@ -1,14 +1,11 @@
--- What each function of a visit asks and does, over a core that stands for the course of some events.
+-- What each function of a visit asks and does.
 use Rattle.std.specs.Prelude.{◌≡◌, ℕ, ◌<◌, Bool, true, false, not, ◌&&◌, if◌then◌else◌, ◌⊎◌, List, [], ◌∷◌, ◌++◌, map}
 use Rattle.std.specs.Prelude.{take, length, filter_map, Option, Some, Result, Ok, Err}
 use Rattle.std.specs.List.{list_any}
 use Rattle.srcp_door.specs.Limits.{most_writes}
-use Rattle.srcp_grammar.specs.Layout.{IsLayout}
 use Rattle.srcp_grammar.specs.declared.layout.Bus.{Bus}
-use Rattle.srcp_core.specs.Course.{course, denied_over, start}
-use Rattle.srcp_core.specs.Held.{Held}
-use Rattle.srcp_core.specs.Recording.{key_of, without_key}
-use Rattle.srcp_core.specs.Stands.{StandsFor}
+use Rattle.srcp_core.specs.Past.{Past, happened, number, room_for}
+use Rattle.srcp_core.specs.Recording.{without_key}
 use Rattle.srcp_core.specs.Under.{Event, Bytes, Room, Shut}
 use Rattle.srcp_door.specs.Calls.{Call as DoorCall, Trace, Adds}
 use Rattle.srcp_serve.specs.Given.{Call, WriteCall, CountsRefusals, door_call}
@@ -33,50 +30,39 @@ AddsGiven old trace calls = Adds old trace (map door_call calls)
 abbrev pub Closes : (peer : ℕ) → (old new : Trace) → Type 0
 Closes peer = Asks (λ calls. (answer : Result Unit DoorFault) × (calls ≡ door.CloseCall peer answer ∷ []))
 
--- ---- a peer that has a slot
-
--- the core stands for the course of the events, and has connection `n` at this key
-pub record IsConnected (buses : List Bus) (events : List Event) (keys : Keys) (n key : ℕ)
-    (held : Held) : Type 0 where
-  pub layout : IsLayout buses
-  pub named : key_of n keys ≡ Some key
-  pub stands : StandsFor buses keys held (course buses events)
-
--- the core counted exactly the refusals of memory in the events from `before` to `after`
-abbrev pub CountsAsked : List Bus → (before after : List Event) → (old new : Held) → Type 0
-CountsAsked buses before after old new = (first : ℕ) → old.denied ≡ denied_over buses first start before
-    → new.denied ≡ denied_over buses first start after
-
--- the door added these calls, without the answers of memory, and the core counted exactly the refusals in them; these
--- are those in the events from `before` to `after`
-pub record Makes (buses : List Bus) (before after : List Event) (calls : List Call) (trace_old : Trace)
-    (trace : List DoorCall)
-    (old new : Held) : Type 0 where
+-- the door added these calls, without the answers of memory, and the core counted exactly the refusals in them
+pub record Makes (calls : List Call) (trace_old : Trace) (trace : List DoorCall) (old new : Past) : Type 0 where
   pub adds : AddsGiven trace_old trace calls
   pub counted : CountsRefusals old calls new
-  pub asked_for : CountsAsked buses before after old new
+
+-- the core went on by these events, and has these keys then
+pub record Went (more : List Event) (keys_now : Keys) (old new : Past) : Type 0 where
+  pub layout : new.buses ≡ old.buses
+  pub events : new.events ≡ old.events ++ more
+  pub keys : new.keys ≡ keys_now
+
+-- ---- a peer that has a slot
 
 -- the door added calls that ask what `asks` says of them, and the core went on by the events that `makes` says; `stays`
 -- says that no call `loses` the peer
-pub record HasActed (buses : List Bus) (events : List Event) (old : Held) (trace_old : Trace) (new : Held)
-    (trace : List DoorCall) (asks : List Call → List Question) (makes : List Call → List Event) (loses : Call → Bool)
-    (keys : Keys) (stays : Bool) : Type 0 where
+pub record HasActed (old : Past) (trace_old : Trace) (new : Past) (trace : List DoorCall)
+    (asks : List Call → List Question) (makes : List Call → List Event) (loses : Call → Bool) (keys : Keys)
+    (stays : Bool) : Type 0 where
   pub calls : List Call
-  pub made : Makes buses events (events ++ makes calls) calls trace_old trace old new
+  pub made : Makes calls trace_old trace old new
   pub asked : map question calls ≡ asks calls
   pub stays_is : list_any loses calls ≡ not stays
-  pub stands : StandsFor buses keys new (course buses (events ++ makes calls))
+  pub went : Went (makes calls) keys old new
 
-module _ (buses : List Bus) (events : List Event) (keys : Keys) (n peer : ℕ)
-    (old : Trace) (trace : List DoorCall) (new : Held) where
-  -- the door added these calls, and the peer took this many bytes
+module _ (peer key : ℕ) (old : Past) (trace_old : Trace) (new : Past) (trace : List DoorCall) where
+  -- the door added these calls, and the peer took this many of the bytes that were lent
   pub record Took (calls : List Call) (count : ℕ) : Type 0 where
-    pub adds : AddsGiven old trace calls
-    pub stands : StandsFor buses keys new (course buses (events ++ Room n count ∷ []))
+    pub adds : AddsGiven trace_old trace calls
+    pub is : new ≡ room_for key count (happened (Room (number key old) 0) old)
 
   -- what one step of writing hands to the peer
   abbrev pub bytes : List ℕ
-  bytes = lent buses n events
+  bytes = lent old.buses (number key old) old.events
 
   -- the peer took all of it, and that was something; nothing was lent, or the peer took less; or the write failed
   abbrev pub HasWritten : Wrote → Type 0
@@ -87,20 +73,19 @@ module _ (buses : List Bus) (events : List Event) (keys : Keys) (n peer : ℕ)
 
 -- ---- the functions of a visit
 
--- whose visit it is, and the core and the door's calls before and after the function
-module _ (peer key : ℕ) (old : Held) (trace_old : Trace) (new : Held) (trace_new : Trace) where
-  -- if the door keeps its calls, `After` holds for every course that the core stood for before
-  abbrev pub FromEveryCourse : (List Bus → List Event → Keys → ℕ → List DoorCall → Type 0) → Type 0
-  FromEveryCourse After = (buses : List Bus) (events : List Event) (keys : Keys) (n : ℕ) (trace : List DoorCall)
-      → IsConnected buses events keys n key old → trace_new ≡ Some trace → After buses events keys n trace
+-- the keys afterwards: the key of a lost peer's connection goes if the function `frees` it
+abbrev pub keys_after : (frees stays : Bool) → ℕ → Keys → Keys
+keys_after frees stays n keys = if frees && not stays then without_key n keys else keys
 
-  -- so it acts over each such course; `frees` says whether a connection whose peer is lost is taken out
+-- whose visit it is, and the core and the door's calls before and after the function
+module _ (peer key : ℕ) (old : Past) (trace_old : Trace) (new : Past) (trace_new : Trace) where
+  -- if the door keeps its calls, it acts so
   abbrev pub Acts : (asks : List Bus → List Event → List Call → Client → List Question)
       → (makes : List Call → Client → List Event) → (loses : Call → Bool) → (frees stays : Bool) → Type 0
-  Acts asks makes loses frees stays = FromEveryCourse (λ buses events keys n trace.
-      let client : Client = record { peer = peer; conn = n } in
-      HasActed buses events old trace_old new trace (λ calls. asks buses events calls client)
-      (λ calls. makes calls client) loses (if frees && not stays then without_key n keys else keys) stays)
+  Acts asks makes loses frees stays = (trace : List DoorCall) → trace_new ≡ Some trace
+      → let client : Client = record { peer = peer; conn = number key old } in
+      HasActed old trace_old new trace (λ calls. asks old.buses old.events calls client)
+      (λ calls. makes calls client) loses (keys_after frees stays client.conn old.keys) stays
 
   -- the peer is read at most once
   abbrev pub ReadsIn : Bool → Type 0
@@ -109,8 +94,8 @@ module _ (peer key : ℕ) (old : Held) (trace_old : Trace) (new : Held) (trace_n
 
   -- the peer is written to at most once
   abbrev pub WritesOnce : Wrote → Type 0
-  WritesOnce wrote =
-      FromEveryCourse (λ buses events keys n trace. HasWritten buses events keys n peer trace_old trace new wrote)
+  WritesOnce wrote = (trace : List DoorCall) → trace_new ≡ Some trace
+      → HasWritten peer key old trace_old new trace wrote
 
   -- the peer is written to as long as it takes all, as often as it may be
   abbrev pub WritesOut : Bool → Type 0

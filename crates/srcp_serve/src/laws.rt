@@ -4,6 +4,7 @@ ghost use Rattle.std.specs.Prelude.{List};
 ghost use Rattle.srcp_grammar.specs.Layout.{IsLayout};
 ghost use Rattle.srcp_grammar.specs.declared.layout.Bus.{Bus};
 ghost use Rattle.srcp_serve.specs.Given.{GivesUnlessCounted};
+ghost use Rattle.srcp_serve.specs.Lendings.{LendingsTellNothing};
 ghost use Rattle.srcp_serve.specs.Serving.{FedIsHanded, SentIsTaken};
 ghost use Rattle.srcp_serve.specs.Settling.{SettlesSoon, WaitsAreGoneAfterAVisit};
 ghost use Rattle.srcp_serve.specs.Pacing.{IsLight, IsPaced, LinesGoOn, PiecesWeighEnough, ServingSparesAll, TurnsSpare};
@@ -19,6 +20,12 @@ pub fn sent_is_taken()
 /// those of `sent_is_taken`.
 pub fn fed_is_handed()
     ensures { (buses : List Bus) → FedIsHanded buses }
+{}
+
+/// States that the course of any events is that of the events without the lendings of writes, so that each write which
+/// took bytes is one room. Only the numbers of events and of refused events are others.
+pub fn lendings_tell_nothing()
+    ensures { (buses : List Bus) → LendingsTellNothing buses }
 {}
 
 /// States that memory was given in all calls, if the core counted exactly their refusals, and counts none.

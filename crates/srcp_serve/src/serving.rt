@@ -12,7 +12,7 @@ ghost use Rattle.std.specs.List.{slice_index_or};
 mod visit;
 
 use crate::tally::Tally;
-use srcp_core::{Core, MOST_CONNECTIONS, MOST_IN_PIECE};
+use srcp_core::{LoggedCore, MOST_CONNECTIONS, MOST_IN_PIECE};
 use srcp_door::Door;
 use srcp_rules::Rows;
 use std::marker::Model;
@@ -46,7 +46,7 @@ struct Server<'d, D: Door> {
 /// A visit reads the peer if the peer's connection accepts bytes, and writes what the core lends. The visit closes the
 /// peer if the peer is lost or the connection is to be closed. Serving goes on after a failed call, and if memory is
 /// refused. A new peer is closed then, or a line is answered 500.
-pub fn serve<R: Rows, D: Door>(core: &mut Core<'_, R>, door: &mut D, turns: u64) -> Served
+pub fn serve<R: Rows, D: Door>(core: &mut LoggedCore<'_, R>, door: &mut D, turns: u64) -> Served
     ensures turns { result.turns ≡ turns }
     ensures faults { D.faults door.new < greatest_u64 → D.faults door.old + result.faults ≡ D.faults door.new }
     ensures trace { Asks (AreTurns turns) (D.trace door.old) (D.trace door.new) }
@@ -91,7 +91,7 @@ impl<'d, D: Door> Server<'d, D> {
     }
 
     /// Makes a turn. Returns whether a peer was connected.
-    fn turn<R: Rows>(&mut self, core: &mut Core<'_, R>) -> bool
+    fn turn<R: Rows>(&mut self, core: &mut LoggedCore<'_, R>) -> bool
         requires { self.old.tally.faults ≤ D.faults self.old.door.now }
         ensures calls { CallsDoor D.faults D.trace D.limit IsTurn self.old self.new }
         ensures course { MakesTurn core.old (D.trace self.old.door.now) self.old.slots
@@ -104,7 +104,7 @@ impl<'d, D: Door> Server<'d, D> {
     }
 
     /// Visits the peers with slots, in the order of the slots.
-    fn visit_slots<R: Rows>(&mut self, core: &mut Core<'_, R>)
+    fn visit_slots<R: Rows>(&mut self, core: &mut LoggedCore<'_, R>)
         requires { self.old.tally.faults ≤ D.faults self.old.door.now }
         ensures calls { CallsDoor D.faults D.trace D.limit AreAboutPeers self.old self.new }
         ensures course { VisitsSlots core.old (D.trace self.old.door.now) self.old.slots
@@ -117,7 +117,7 @@ impl<'d, D: Door> Server<'d, D> {
     }
 
     /// Visits the peer of the slot, if any. Frees the slot if the visit closed the peer.
-    fn visit_slot<R: Rows>(&mut self, core: &mut Core<'_, R>, slot: usize)
+    fn visit_slot<R: Rows>(&mut self, core: &mut LoggedCore<'_, R>, slot: usize)
         requires counted { self.old.tally.faults ≤ D.faults self.old.door.now }
         requires within { slot < MOST_CONNECTIONS }
         ensures calls { CallsDoor D.faults D.trace D.limit AreAboutPeers self.old self.new }
@@ -135,11 +135,10 @@ impl<'d, D: Door> Server<'d, D> {
 
     /// Tells the door what to expect, asks the door for the time, and advances the core to that time. If the door
     /// fails, the core keeps its moment.
-    fn take_moment<R: Rows>(&mut self, core: &mut Core<'_, R>)
+    fn take_moment<R: Rows>(&mut self, core: &mut LoggedCore<'_, R>)
         requires { self.old.tally.faults ≤ D.faults self.old.door.now }
         ensures slots { self.new.slots ≡ self.old.slots }
         ensures calls { CallsDoor D.faults D.trace D.limit AreMoment self.old self.new }
-        ensures denied { core.new.denied ≡ core.old.denied }
         ensures course { TakesMoment core.old (D.trace self.old.door.now)
             core.new (D.trace self.new.door.now) }
     {
@@ -152,7 +151,7 @@ impl<'d, D: Door> Server<'d, D> {
     }
 
     /// Accepts one peer, if one is pending. Returns whether the peer got a slot.
-    fn accept_one<R: Rows>(&mut self, core: &mut Core<'_, R>) -> bool
+    fn accept_one<R: Rows>(&mut self, core: &mut LoggedCore<'_, R>) -> bool
         requires { self.old.tally.faults ≤ D.faults self.old.door.now }
         ensures calls { CallsDoor D.faults D.trace D.limit AreAccept self.old self.new }
         ensures course { AcceptsOne core.old (D.trace self.old.door.now) self.old.slots
@@ -170,7 +169,7 @@ impl<'d, D: Door> Server<'d, D> {
 
     /// Gives a peer a connection and the first free slot. Closes the peer if the core refuses the connection. Returns
     /// whether the peer got a slot.
-    fn connect<R: Rows>(&mut self, core: &mut Core<'_, R>, peer: u32) -> bool
+    fn connect<R: Rows>(&mut self, core: &mut LoggedCore<'_, R>, peer: u32) -> bool
         requires { self.old.tally.faults ≤ D.faults self.old.door.now }
         ensures calls { CallsDoor D.faults D.trace D.limit AreAboutPeers self.old self.new }
         ensures course { Connects core.old (D.trace self.old.door.now) self.old.slots

@@ -1,7 +1,7 @@
 //! Serving over a door in memory.
 
 use crate::script_door::{ScriptDoor, ScriptPeer};
-use srcp_core::{Core, CoreFault, Record, Refusal, run};
+use srcp_core::{CoreFault, LoggedCore, Record, Refusal, run};
 use srcp_rules::{Bus, Flat, Layout};
 use srcp_serve::{Served, serve};
 use std::alloc::Global;
@@ -47,7 +47,7 @@ fn serve_and_run(
     door: &mut ScriptDoor<'_>,
     turns: u64,
 ) -> Result<(Served, Record), Fail> {
-    let mut core = Core::<Flat>::new(alloc, layout, 0, 0)?;
+    let mut core = LoggedCore::<Flat>::new(alloc, layout)?;
     let served = serve(&mut core, door, turns);
     let events = door.events()?;
     let trace = run::<Flat>(alloc, layout, &events)?;

@@ -1,6 +1,6 @@
 //! Serving over sockets of this machine, in one process.
 
-use srcp_core::Core;
+use srcp_core::LoggedCore;
 use srcp_host::serve_sockets;
 use srcp_rules::{Flat, Layout};
 use srcp_serve::{Door, DoorFault, Served};
@@ -68,7 +68,7 @@ fn free_port<N: Net>(net: &N) -> io::Result<u16> {
 #[test]
 fn answers_a_client(rt: HostRuntime) -> Result<(), Fail> {
     let layout = Layout::new(rt.alloc());
-    let mut core = Core::<Flat>::new(rt.alloc(), &layout, 0, 0)?;
+    let mut core = LoggedCore::<Flat>::new(rt.alloc(), &layout)?;
     let port = free_port(&rt)?;
     let mut door = SocketDoor::listen(&rt, rt.alloc(), port, Still)?;
     door.wait_at_most(0);
@@ -129,7 +129,7 @@ fn time_goes_forward_in_steps_where_something_falls_due(rt: HostRuntime) -> Resu
 #[test]
 fn delivers_what_was_taken_in_the_last_turn(rt: HostRuntime) -> Result<(), Fail> {
     let layout = Layout::new(rt.alloc());
-    let mut core = Core::<Flat>::new(rt.alloc(), &layout, 0, 0)?;
+    let mut core = LoggedCore::<Flat>::new(rt.alloc(), &layout)?;
     let port = free_port(&rt)?;
     let address = SocketAddr::from((Ipv4Addr::LOCALHOST, port));
     let mut door = SocketDoor::listen(&rt, rt.alloc(), port, Still)?;

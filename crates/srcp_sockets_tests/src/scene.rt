@@ -3,7 +3,7 @@
 use crate::network::Network;
 use crate::record::took_of;
 use crate::recorder::{Recorder, open};
-use srcp_core::Core;
+use srcp_core::LoggedCore;
 use srcp_host::serve_sockets;
 use srcp_rules::{Bus, Flat, Layout};
 use srcp_serve::Served;
@@ -43,7 +43,7 @@ pub(crate) fn serve_turns<'a>(
 ) -> Result<(Served, SocketDoor<Recorder<'a>>), Fail> {
     let mut layout = Layout::new(alloc);
     layout.add(BUS)?;
-    let mut core = Core::<Flat>::new(alloc, &layout, 0, 0)?;
+    let mut core = LoggedCore::<Flat>::new(alloc, &layout)?;
     let mut door = open(alloc, network)?;
     let served = serve_sockets(&mut core, &mut door, turns);
     Ok((served, door))

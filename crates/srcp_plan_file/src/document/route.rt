@@ -5,11 +5,14 @@ ghost use Rattle.toml.specs.View.{table_view, view as data_of};
 ghost use Rattle.srcp_layout_file.specs.Gives.{Gives, Shows};
 ghost use Rattle.srcp_plan_file.specs.Document.{array_if, delay_at, frees_at, new_signal, new_turnout, pieces_at};
 ghost use Rattle.srcp_plan_file.specs.Document.{route_numbered, sensor_in, sensors_at, sensors_in, signal_at};
-ghost use Rattle.srcp_plan_file.specs.Document.{signal_in, turnout_in, turnouts_in};
+ghost use Rattle.srcp_plan_file.specs.Document.{drawn_turnout, drawn_turnouts, found_turnouts, only_way};
+ghost use Rattle.srcp_plan_file.specs.Document.{signal_in, turnout_in, turnouts_at, turnouts_in};
 ghost use Rattle.srcp_plan_file.specs.Plan.{drawn, planned_route};
+ghost use Rattle.srcp_plan_file.specs.Searches.{walked};
 
-use crate::device::{sensor_of, signal_of, turnout_of};
+use crate::device::{is_turnout, sensor_of, signal_of, turnout_of};
 use crate::plan::{Field, PlanFault};
+use crate::search::Walk;
 use crate::tracks::{Tracks, text_at};
 use srcp_layout_file::member::{array_in, ranged, value_at};
 use srcp_routes::{Device, Route, Setting, Signal, has_accessory};
@@ -34,8 +37,7 @@ pub(super) fn route_numbered(
     ensures { Gives planned_route PlanFault.Memory result
         (route_numbered own number (drawn tracks.now) (table_view members.now)) }
 {
-    let values = array_if(number, members, Field::Turnouts)?;
-    let turnouts = turnouts_in(alloc, own, number, values)?;
+    let turnouts = turnouts_at(alloc, own, number, tracks, members)?;
     let blocks = sensors_at(alloc, own, number, Field::Blocks, members)?;
     let signal = signal_at(own, number, &turnouts, members)?;
     let frees = frees_at(own, number, members)?;
@@ -102,6 +104,93 @@ fn new_turnout(number: u32, before: &[Setting], turnout: Setting) -> Result<Sett
         Err(PlanFault::Repeated(number))
     } else {
         Ok(turnout)
+    }
+}
+
+/// Returns a turnout of the drawing. Returns a fault if the turnout is on the routes' own bus.
+fn drawn_turnout(
+    own: u8,
+    number: u32,
+    before: &[Setting],
+    turnout: Setting,
+) -> Result<Setting, PlanFault>
+    ensures { result ≡ drawn_turnout own number before.now turnout }
+{
+    if is_turnout(own, turnout) {
+        new_turnout(number, before, turnout)
+    } else {
+        Err(PlanFault::Beyond(number, Field::Turnouts))
+    }
+}
+
+/// Returns turnouts of the drawing from the first to the last.
+fn drawn_turnouts(
+    alloc: Global,
+    own: u8,
+    number: u32,
+    found: &[Setting],
+) -> Result<Vec<Setting>, PlanFault>
+    ensures { Gives (λ turnouts. turnouts.items) PlanFault.Memory result (drawn_turnouts own number [] found.now) }
+{
+    let mut turnouts = Vec::new(alloc);
+    for each in found {
+        let turnout = drawn_turnout(own, number, &turnouts, *each)?;
+        turnouts.push(turnout)?;
+    }
+    Ok(turnouts)
+}
+
+/// Returns the turnouts of the only way.
+fn only_way<'a>(number: u32, ways: &'a [Walk]) -> Result<&'a [Setting], PlanFault>
+    ensures { Shows (λ turnouts. turnouts.now) result (only_way number (map walked ways.now)) }
+{
+    match ways {
+        [] => Err(PlanFault::NoTrack(number)),
+        [way] => Ok(&way.turnouts),
+        _ => Err(PlanFault::Several(number)),
+    }
+}
+
+/// Finds the turnouts of the only way of the drawing from one end of a route to the other.
+fn found_turnouts(
+    alloc: Global,
+    own: u8,
+    number: u32,
+    tracks: &Tracks,
+    members: &Table,
+) -> Result<Vec<Setting>, PlanFault>
+    ensures { Gives (λ turnouts. turnouts.items) PlanFault.Memory result
+        (found_turnouts own number (drawn tracks.now) (table_view members.now)) }
+{
+    if tracks.pieces.is_empty() {
+        return Ok(Vec::new(alloc));
+    }
+    match (text_at(members, Field::From), text_at(members, Field::To)) {
+        (Some(from), Some(to)) => {
+            let ways = tracks.ways_named(alloc, from, to)?;
+            drawn_turnouts(alloc, own, number, only_way(number, &ways)?)
+        }
+        _ => Ok(Vec::new(alloc)),
+    }
+}
+
+/// Reads the turnouts of a route, or finds them in the drawing if the route names its ends alone.
+fn turnouts_at(
+    alloc: Global,
+    own: u8,
+    number: u32,
+    tracks: &Tracks,
+    members: &Table,
+) -> Result<Vec<Setting>, PlanFault>
+    ensures { Gives (λ turnouts. turnouts.items) PlanFault.Memory result
+        (turnouts_at own number (drawn tracks.now) (table_view members.now)) }
+{
+    match value_at(members, Field::Turnouts) {
+        Some(value) => {
+            let values = array_in(value, PlanFault::Beyond(number, Field::Turnouts))?;
+            turnouts_in(alloc, own, number, values)
+        }
+        None => found_turnouts(alloc, own, number, tracks, members),
     }
 }
 

@@ -1,13 +1,14 @@
 -- An information session that goes on: what is unsent of it and what it is owed, and what each event makes of that.
-use Rattle.srcp_serve.proofs.Names.{◌≡◌, ◌∙◌, ◌+◌, List, [], ◌∷◌, ◌++◌, map, length, refl, ap, sym, append-nil, append_assoc, length-append}
-use Rattle.srcp_serve.proofs.Names.{ℕ, true, false, if◌then◌else◌, None, arith, ◌-◌, ◌≤◌, min, Bool, Option, Some, length-drop, flat_map}
-use Rattle.srcp_serve.proofs.Names.{nat_le, filter, fold, AllByRecursion, enumerate_from, drop_at, drop_all, flat_map-append, fold-append}
-use Rattle.srcp_serve.proofs.Names.{Change, Bus, History, Connection, concerning, cursor_at, overran, owed, untold, available, fitting}
-use Rattle.srcp_serve.proofs.Names.{given, given_room, line_of, took, unsent, World, start, happens, course, state, history, history_from}
-use Rattle.srcp_serve.proofs.Names.{state_after, stepped, updates_of, numbered, open_connection, at_connection, counted, or_refused, fault}
-use Rattle.srcp_serve.proofs.Names.{answered, answered_as, new_lines, rows, Event, Step, Bytes, Room, Piece, Heard, brought, IsPanel}
-use Rattle.srcp_serve.proofs.Names.{no_lists, Shown, concerns, le_refl, Next, IsLayout, CoreFault, numbered_with, takes_within}
-use Rattle.srcp_serve.proofs.Names.{took_overran, lent, cond_both, nil_from_length, IsKept, kept_all}
+use Rattle.srcp_serve.proofs.Names.{◌≡◌, ◌∙◌, ◌+◌, List, [], ◌∷◌, ◌++◌, map, length, refl, ap, sym, append-nil, append_assoc}
+use Rattle.srcp_serve.proofs.Names.{length-append, ℕ, true, false, if◌then◌else◌, None, arith, ◌-◌, ◌≤◌, min, Bool, Option, Some}
+use Rattle.srcp_serve.proofs.Names.{length-drop, flat_map, nat_le, filter, fold, AllByRecursion, enumerate_from, drop_at, drop_all}
+use Rattle.srcp_serve.proofs.Names.{flat_map-append, fold-append, Change, Bus, History, Connection, concerning, cursor_at, overran, owed}
+use Rattle.srcp_serve.proofs.Names.{untold, available, fitting, given, given_room, line_of, took, unsent, World, start, happens, course}
+use Rattle.srcp_serve.proofs.Names.{state, history, history_from, state_after, stepped, updates_of, numbered, open_connection}
+use Rattle.srcp_serve.proofs.Names.{at_connection, counted, or_refused, fault, answered, answered_as, new_lines, rows, Event, Step, Bytes}
+use Rattle.srcp_serve.proofs.Names.{Room, Piece, Heard, brought, IsPanel, no_lists, Shown, concerns, le_refl, Next, IsLayout, CoreFault}
+use Rattle.srcp_serve.proofs.Names.{numbered_with, takes_within, rooms_of, ne_eqb, ◌==◌, ◌<◌, took_overran, lent, cond_both}
+use Rattle.srcp_serve.proofs.Names.{nil_from_length, IsKept, kept_all}
 use Rattle.srcp_rules.specs.State.{State, opening, shown_rows}
 use Rattle.srcp_core.proofs.CourseLaws.ShownRegistry.{history_append, length_history}
 use Rattle.srcp_core.proofs.CourseLaws.Histories.{AreBy, IsDoneBy, cursor_later, enumerate_push}
@@ -168,6 +169,11 @@ first_fits (byte ∷ bytes) nexts full = fits_left _ byte bytes nexts (le_refl (
 first_fits [] (what ∷ nexts) full = first_some (length (line_of what)) what nexts full.0 (le_refl (length (line_of what)))
 first_fits [] [] full = refl
 
+fits_none : (bytes : List ℕ) (nexts : List Next) → AreFull nexts → fitting 0 bytes nexts ≡ first_given bytes nexts
+fits_none (byte ∷ bytes) nexts full = fits_left 0 byte bytes nexts (omega arith)
+fits_none [] (what ∷ nexts) full = first_some 0 what nexts full.0 (omega arith)
+fits_none [] [] full = refl
+
 -- it is what was unsent and what is given, and no more than there is
 first_size : (bytes : List ℕ) (nexts : List Next) → length (first_text bytes nexts)
     ≡ length bytes + length (flat_map line_of (first_given bytes nexts))
@@ -235,25 +241,44 @@ module _ (buses : List Bus) (n : ℕ) where
           first_lent bytes nexts panel_full,
         )
 
-    -- room for all that it lends
-    pub panel_room : IsLayout buses → Panel (events ++ Room n (length (first_text bytes nexts)) ∷ []) [] (owed_then bytes nexts)
-    panel_room layout =
-        let k : ℕ = length (first_text bytes nexts) in
+    -- room for what it lends, or for none, gives the first line
+    room_for_first : IsLayout buses → (k : ℕ) (left : List ℕ) → fitting k bytes nexts ≡ first_given bytes nexts
+        → unsent (took k (length (history buses w)) (owed p.conn (history buses w) (rows buses w)) p.conn) ≡ left
+        → Panel (events ++ Room n k ∷ []) left (owed_then bytes nexts)
+    room_for_first layout k text fits left_is =
         let past = history buses w in
         let due = owed p.conn past (rows buses w) in
         let later = took k (length past) due p.conn in
         let next = after_room buses events n k p.conn panel_open in
         let same = ap (history buses) next in
         let shows = ap (rows buses) next in
-        let fit : fitting k (unsent p.conn) due ≡ first_given bytes nexts = cc (first_fits bytes nexts panel_full) in
+        let fit : fitting k (unsent p.conn) due ≡ first_given bytes nexts = cc (p.left, p.owes, fits) in
         let after = owes_after buses layout w k p.conn panel_shut p.is.info (panel_fits layout) in
         let rest = rest_is bytes nexts after.rest (cc) in
         let v = course buses (events ++ Room n k ∷ []) in
         let there : numbered n v.connections ≡ Some later = cc (there_after buses events n k p.conn panel_open, room_is k) in
         let fine : overran later (history buses v) ≡ false = cc (took_overran past k due p.conn panel_shut p.is.fine) in
-        let left : unsent later ≡ [] = nothing_left k due refl p.owes fit in
+        let left : unsent later ≡ text = left_is in
         let owes : owed later (history buses v) (rows buses v) ≡ owed_then bytes nexts = cc in
         search
+
+    -- room for none
+    panel_lend : IsLayout buses → Panel (events ++ Room n 0 ∷ []) (first_text bytes nexts) (owed_then bytes nexts)
+    panel_lend layout =
+        let past = history buses w in
+        let due = owed p.conn past (rows buses w) in
+        room_for_first layout 0 (first_text bytes nexts) (fits_none bytes nexts panel_full) (cc (
+          left_after (length past) due p.conn (takes_within buses layout events n p.conn p.is.there),
+          first_lent bytes nexts panel_full,
+        ))
+
+    -- room for all that it lends
+    pub panel_room : IsLayout buses → Panel (events ++ Room n (length (first_text bytes nexts)) ∷ []) [] (owed_then bytes nexts)
+    panel_room layout =
+        let k : ℕ = length (first_text bytes nexts) in
+        let due = owed p.conn (history buses w) (rows buses w) in
+        let fit : fitting k (unsent p.conn) due ≡ first_given bytes nexts = cc (first_fits bytes nexts panel_full) in
+        room_for_first layout k [] (first_fits bytes nexts panel_full) (nothing_left k due refl p.owes fit)
       where
         most : (k u t g f b all : ℕ) → t ≤ g → u ≡ g - t → u ≡ b → k ≡ b + f → k ≤ all → g + f ≤ t + min k all
         most k u t g f b all within left bytes size there = omega arith
@@ -338,3 +363,16 @@ module _ (buses : List Bus) (n : ℕ) where
         let owes : owed p.conn (history buses v) (rows buses v) ≡ nexts =
         cc (owed_same p.conn panel_shut past since (rows buses w) fits.numbers fits.done_by each) in
         search
+
+  -- a write of all that it lends, if that is something
+  pub panel_write : (events : List Event) (bytes : List ℕ) (nexts : List Next) → Panel events bytes nexts → IsLayout buses
+      → 0 < length (first_text bytes nexts)
+      → Panel (events ++ map (Room n) (rooms_of (length (first_text bytes nexts)))) [] (owed_then bytes nexts)
+  panel_write events bytes nexts p layout some = by (first_text bytes nexts) some (panel_lend events bytes nexts p layout)
+    where
+      by : (text : List ℕ) → 0 < length text → Panel (events ++ Room n 0 ∷ []) text (owed_then bytes nexts)
+          → Panel (events ++ map (Room n) (rooms_of (length text))) [] (owed_then bytes nexts)
+      by [] none q = absurd (omega (arith, none))
+      by (byte ∷ text) some q =
+          let written : (length (byte ∷ text) == 0) ≡ false = ne_eqb (length (byte ∷ text)) 0 (λ e. omega (arith, e)) in
+          rw written (rw append_assoc at (panel_room (events ++ Room n 0 ∷ []) (byte ∷ text) (owed_then bytes nexts) q layout))

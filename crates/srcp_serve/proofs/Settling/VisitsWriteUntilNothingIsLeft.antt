@@ -5,11 +5,12 @@ use Rattle.srcp_serve.proofs.Names.{◌==◌, length-filter, filter, filter_map,
 use Rattle.srcp_serve.proofs.Names.{nat_tests, map-append, list_any-append, Next, Bus, IsLayout, line_of, Event, Bytes, Room, Piece, Call}
 use Rattle.srcp_serve.proofs.Names.{WriteCall, CloseCall, Question, Reads, Writes, Closes, Client, IsFair, question, piece_of, count_of}
 use Rattle.srcp_serve.proofs.Names.{is_close, is_write, loses, loses_reading, falls_short, lent_none_last, exchange, is_closing, lent}
-use Rattle.srcp_serve.proofs.Names.{handed, closes_of, visit_asks, and_parts, cond_both, is_ready, reads_of, writes_of, all_weaker, is_nil}
+use Rattle.srcp_serve.proofs.Names.{rooms_of, flat_map, handed, closes_of, visit_asks, and_parts, cond_both, is_ready, reads_of}
+use Rattle.srcp_serve.proofs.Names.{writes_of, all_weaker, is_nil}
 use Rattle.srcp_serve.proofs.CallsByTurnAndPeer.{any_not, not_any}
 use Rattle.srcp_serve.proofs.VisitsSendWhatIsTaken.{first_of_writes, has_writes, no_write}
 use Rattle.srcp_serve.proofs.Settling.PanelsTakeTheirLines.{Panel, first_text, owed_then, panel_bytes, panel_full, panel_goes_on}
-use Rattle.srcp_serve.proofs.Settling.PanelsTakeTheirLines.{panel_lends, panel_open, panel_room}
+use Rattle.srcp_serve.proofs.Settling.PanelsTakeTheirLines.{panel_lends, panel_open, panel_room, panel_write}
 
 -- the peer took all of it, if it is a write
 abbrev pub IsWhole : Call → Type 0
@@ -29,8 +30,8 @@ module _ (buses : List Bus) (layout : IsLayout buses) (peer n : ℕ) where
     some : 0 < length (first_text bytes nexts)
     left : ℕ
     one_less : most ≡ suc left
-    panel : Panel buses n (events ++ Room n count ∷ []) [] (owed_then bytes nexts)
-    others : map question calls ≡ map (Writes peer) (take left (handed buses n (events ++ Room n count ∷ []) more))
+    panel : Panel buses n (events ++ map (Room n) (rooms_of count)) [] (owed_then bytes nexts)
+    others : map question calls ≡ map (Writes peer) (take left (handed buses n (events ++ map (Room n) (rooms_of count)) more))
     counted : more ≡ filter_map count_of calls
 
   abbrev Asked : ℕ → List Event → List Call → List Question → Type 0
@@ -43,7 +44,7 @@ module _ (buses : List Bus) (layout : IsLayout buses) (peer n : ℕ) where
   first_write (WriteCall who text (Ok count)) calls most events bytes nexts h e p =
       let now = lent buses n events in
       let counts = filter_map count_of calls in
-      let rest : Bool → List (List ℕ) = λ b. if b then handed buses n (events ++ Room n count ∷ []) counts else [] in
+      let rest : Bool → List (List ℕ) = λ b. if b then handed buses n (events ++ map (Room n) (rooms_of count)) counts else [] in
       let f = first_of_writes peer who most text now (map question calls) (rest (count == length now)) e in
       let lends = panel_lends buses n events bytes nexts p layout in
       let fits = ltb-false count (length text) h.2 in
@@ -51,14 +52,15 @@ module _ (buses : List Bus) (layout : IsLayout buses) (peer n : ℕ) where
       let full : count ≡ length now = cc in
       let yes : (count == length now) ≡ true = grind (arith, nat_tests) in
       let size : length (first_text bytes nexts) ≡ count = sym (cc) in
+      let some : 0 < length (first_text bytes nexts) = rw lends at f.some in
       record {
         count = count;
         more = counts;
         counts_are = refl;
-        some = rw lends at f.some;
+        some = some;
         left = f.left;
         one_less = f.one_less;
-        panel = rw size at (panel_room buses n events bytes nexts p layout);
+        panel = rw size at (panel_write buses n events bytes nexts p layout some);
         others = cc;
         counted = refl;
       }
@@ -69,7 +71,7 @@ module _ (buses : List Bus) (layout : IsLayout buses) (peer n : ℕ) where
     pub lines : List Next
     pub rest : List Next
     pub whole : nexts ≡ lines ++ rest
-    pub panel : Panel buses n (events ++ map (Room n) counts) [] rest
+    pub panel : Panel buses n (events ++ map (Room n) (flat_map rooms_of counts)) [] rest
     pub many : length lines + first ≡ length counts
     pub ends : (rest ≡ []) ⊎ (length counts ≡ most)
 
@@ -86,7 +88,7 @@ module _ (buses : List Bus) (layout : IsLayout buses) (peer n : ℕ) where
   -- the first write and then the others
   then_others : (most first : ℕ) (events : List Event) (bytes : List ℕ) (nexts prefix : List Next) (calls : List Call) (counts : List ℕ)
       (f : IsWritten most events bytes nexts calls counts) → nexts ≡ prefix ++ owed_then bytes nexts → length prefix + first ≡ 1
-      → IsHanded f.left 0 (owed_then bytes nexts) (events ++ Room n f.count ∷ []) (filter_map count_of calls)
+      → IsHanded f.left 0 (owed_then bytes nexts) (events ++ map (Room n) (rooms_of f.count)) (filter_map count_of calls)
       → IsHanded most first nexts events counts
   then_others most first events bytes nexts prefix calls counts f split one r =
       let are : counts ≡ f.count ∷ filter_map count_of calls = cc in
@@ -94,8 +96,9 @@ module _ (buses : List Bus) (layout : IsLayout buses) (peer n : ℕ) where
         lines = prefix ++ r.lines;
         rest = r.rest;
         whole = cc (append_assoc prefix r.lines r.rest);
-        panel = rw (append_assoc events (Room n f.count ∷ []) (map (Room n) (filter_map count_of calls))
-            ∙ ap (λ cs. events ++ map (Room n) cs) (sym are)) at r.panel;
+        panel = rw (append_assoc events (map (Room n) (rooms_of f.count)) (map (Room n) (flat_map rooms_of (filter_map count_of calls)))
+            ∙ ap (λ (es : List Event). events ++ es) (sym (map-append (Room n) (rooms_of f.count) _))
+            ∙ ap (λ cs. events ++ map (Room n) (flat_map rooms_of cs)) (sym are)) at r.panel;
         many = longer (length prefix) (length r.lines) (length (prefix ++ r.lines)) (length (filter_map count_of calls)) (length counts) one
             (length-append prefix r.lines) r.many (ap length are);
         ends = by (length (filter_map count_of calls)) (length counts) r.ends (ap length are);
@@ -130,7 +133,7 @@ module _ (buses : List Bus) (layout : IsLayout buses) (peer n : ℕ) where
   hands_lines (call ∷ calls) most events (what ∷ nexts) h e p =
       let f = first_write call calls most events [] (what ∷ nexts) h.0 e p in
       then_others most 0 events [] (what ∷ nexts) (what ∷ []) calls (filter_map count_of (call ∷ calls)) f refl refl
-      (hands_lines calls f.left (events ++ Room n f.count ∷ []) nexts h.1 (rw f.counted at f.others) f.panel)
+      (hands_lines calls f.left (events ++ map (Room n) (rooms_of f.count)) nexts h.1 (rw f.counted at f.others) f.panel)
 
   -- if some may be
   pub hands_all : (calls : List Call) (most : ℕ) (events : List Event) (bytes : List ℕ) (nexts : List Next) → 0 < most
@@ -145,7 +148,7 @@ module _ (buses : List Bus) (layout : IsLayout buses) (peer n : ℕ) where
   hands_all (call ∷ calls) most events (byte ∷ bytes) nexts some h e p =
       let f = first_write call calls most events (byte ∷ bytes) nexts h.0 e p in
       then_others most 1 events (byte ∷ bytes) nexts [] calls (filter_map count_of (call ∷ calls)) f refl refl
-      (hands_lines calls f.left (events ++ Room n f.count ∷ []) nexts h.1 (rw f.counted at f.others) f.panel)
+      (hands_lines calls f.left (events ++ map (Room n) (rooms_of f.count)) nexts h.1 (rw f.counted at f.others) f.panel)
 
 -- ---- the whole visit
 
@@ -217,6 +220,11 @@ module _ (buses : List Bus) (layout : IsLayout buses) (client : Client) (events 
     pub ends : (rest ≡ []) ⊎ (length lines + one_unless_nil bytes ≡ 300)
     pub stays : list_any is_close calls ≡ false
 
+  -- its connection is not to be closed once nothing is unsent
+  goes_on_open : (now : List Event) (rest : List Next) → Panel buses client.conn now [] rest
+      → is_closing buses client.conn now ≡ false
+  goes_on_open now rest q = cc (panel_open buses client.conn now [] rest q, panel_goes_on buses client.conn now [] rest q)
+
   last_room : (now : List Event) (rest : List Next) (b : Bool) → (b ≡ true → rest ≡ []) → Panel buses client.conn now [] rest
       → Panel buses client.conn (now ++ map (Room client.conn) (if b then 0 ∷ [] else [])) [] rest
   last_room now rest false none q = rw append-nil q
@@ -227,13 +235,14 @@ module _ (buses : List Bus) (layout : IsLayout buses) (client : Client) (events 
       let r = wrote in
       let n : ℕ = client.conn in
       let asks_last = lent_none_last calls in
-      let last = last_room (read_events ++ map (Room n) (filter_map count_of calls)) r.rest asks_last (few r.rest r.ends) r.panel in
-      let whole : (read_events ++ map (Room n) (filter_map count_of calls)) ++ map (Room n) (if asks_last then 0 ∷ [] else [])
+      let roomed = map (Room n) (flat_map rooms_of (filter_map count_of calls)) in
+      let last = last_room (read_events ++ roomed) r.rest asks_last (few r.rest r.ends) r.panel in
+      let whole : (read_events ++ roomed) ++ map (Room n) (if asks_last then 0 ∷ [] else [])
       ≡ events ++ exchange n calls = simp (append_assoc, map-append) in
       let panel = rw whole at last in
       let now = events ++ exchange n calls in
       let open_still : is_closing buses n now ≡ false =
-      cc (panel_open buses n now [] r.rest panel, panel_goes_on buses n now [] r.rest panel) in
+      goes_on_open now r.rest panel in
       let reads : NoCloses (reads_of buses events client) =
       cond_both (is_ready buses client.conn events) (Reads client.peer 256 ∷ []) [] NoCloses (λ e. refl) (λ e. refl) in
       let texts = take 300 (handed buses client.conn read_events (filter_map count_of calls)) in

@@ -6,7 +6,7 @@ ghost use Rattle.srcp_serve.specs.Turns.{AreAboutPeers};
 ghost use Rattle.srcp_serve.specs.Visits.{Closes, Disconnects, ReadsIn, Visits, WritesOnce, WritesOut};
 
 use super::Server;
-use srcp_core::Core;
+use srcp_core::LoggedCore;
 use srcp_door::{Door, Got, MOST_WRITES};
 use srcp_rules::Rows;
 
@@ -31,7 +31,7 @@ enum Wrote {
 impl<'d, D: Door> Server<'d, D> {
     /// Reads from the peer and writes to it. Closes it if it is lost or its connection is to be closed. Returns
     /// whether it keeps its slot.
-    pub(super) fn visit<R: Rows>(&mut self, core: &mut Core<'_, R>, client: Client) -> bool
+    pub(super) fn visit<R: Rows>(&mut self, core: &mut LoggedCore<'_, R>, client: Client) -> bool
         requires { self.old.tally.faults ≤ D.faults self.old.door.now }
         ensures slots { self.new.slots ≡ self.old.slots }
         ensures calls { CallsDoor D.faults D.trace D.limit AreAboutPeers self.old self.new }
@@ -46,11 +46,10 @@ impl<'d, D: Door> Server<'d, D> {
     }
 
     /// Hangs up the connection of a peer and closes the peer.
-    pub(super) fn disconnect<R: Rows>(&mut self, core: &mut Core<'_, R>, client: Client)
+    pub(super) fn disconnect<R: Rows>(&mut self, core: &mut LoggedCore<'_, R>, client: Client)
         requires { self.old.tally.faults ≤ D.faults self.old.door.now }
         ensures slots { self.new.slots ≡ self.old.slots }
         ensures calls { CallsDoor D.faults D.trace D.limit AreAboutPeers self.old self.new }
-        ensures denied { core.new.denied ≡ core.old.denied }
         ensures course { Disconnects client.peer client.key core.old (D.trace self.old.door.now)
             core.new (D.trace self.new.door.now) }
     {
@@ -72,7 +71,7 @@ impl<'d, D: Door> Server<'d, D> {
     }
 
     /// Reads once, if the connection accepts bytes. Returns false if the peer is lost.
-    fn read_in<R: Rows>(&mut self, core: &mut Core<'_, R>, client: Client) -> bool
+    fn read_in<R: Rows>(&mut self, core: &mut LoggedCore<'_, R>, client: Client) -> bool
         requires { self.old.tally.faults ≤ D.faults self.old.door.now }
         ensures slots { self.new.slots ≡ self.old.slots }
         ensures calls { CallsDoor D.faults D.trace D.limit AreAboutPeers self.old self.new }
@@ -94,11 +93,10 @@ impl<'d, D: Door> Server<'d, D> {
     }
 
     /// Writes what the core lends, as long as the peer takes all of it. Returns false if the peer is lost.
-    fn write_out<R: Rows>(&mut self, core: &mut Core<'_, R>, client: Client) -> bool
+    fn write_out<R: Rows>(&mut self, core: &mut LoggedCore<'_, R>, client: Client) -> bool
         requires { self.old.tally.faults ≤ D.faults self.old.door.now }
         ensures slots { self.new.slots ≡ self.old.slots }
         ensures calls { CallsDoor D.faults D.trace D.limit AreAboutPeers self.old self.new }
-        ensures denied { core.new.denied ≡ core.old.denied }
         ensures course { WritesOut client.peer client.key core.old (D.trace self.old.door.now)
             core.new (D.trace self.new.door.now) result }
     {
@@ -113,11 +111,10 @@ impl<'d, D: Door> Server<'d, D> {
     }
 
     /// Writes what the core lends, once, and drops of it what the peer took.
-    fn write_once<R: Rows>(&mut self, core: &mut Core<'_, R>, client: Client) -> Wrote
+    fn write_once<R: Rows>(&mut self, core: &mut LoggedCore<'_, R>, client: Client) -> Wrote
         requires { self.old.tally.faults ≤ D.faults self.old.door.now }
         ensures slots { self.new.slots ≡ self.old.slots }
         ensures calls { CallsDoor D.faults D.trace D.limit AreAboutPeers self.old self.new }
-        ensures denied { core.new.denied ≡ core.old.denied }
         ensures course { WritesOnce client.peer client.key core.old (D.trace self.old.door.now)
             core.new (D.trace self.new.door.now) result }
     {

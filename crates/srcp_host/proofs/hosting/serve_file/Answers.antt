@@ -1,6 +1,5 @@
 use Rattle.std.proofs.Common.{◌∙◌, ap, subst}
-use Rattle.srcp_core.proofs.Agreement.CallLaws.{calls_lead}
-use Rattle.srcp_core.specs.Held.{Held}
+use Rattle.srcp_core.specs.Past.{Past}
 use Rattle.srcp_host.specs.Follows.{IsFollowed}
 use Rattle.srcp_host.specs.Hosting.{longest_of_turns}
 use Rattle.srcp_host.proofs.hosting.serve_file.Goals as goal
@@ -12,12 +11,12 @@ returns-clause-served g c =
     record {
       config = c.in_ok-config.config;
       opened = c.in_ok-door.door.sockets.system.system;
-      held = served.new.core;
+      core = served.new.core;
       asked = record { says = c.in_ok-config.ensures; answered = c.in_ok-door.ensures.ok };
       counted = cc;
-      followed = subst (λ (held : Held). IsFollowed buses c.args.turns served.result.opened served.new.door.sockets.system.log.steps
-          held served.new.core) c.in_ok-core.ensures
-          (served.ensures.course buses c.buses.ensures.laid_out (calls_lead.first buses c.in_ok-core.core c.in_ok-core.ensures)
+      followed = subst (λ (old : Past). IsFollowed buses c.args.turns served.result.opened served.new.door.sockets.system.log.steps
+          old served.new.core) c.in_ok-core.ensures
+          (served.ensures.course buses c.in_ok-core.ensures
           (ap (λ system. system.log.steps) c.limit_waits.ensures.system ∙ c.in_ok-door.ensures.log));
     }
 

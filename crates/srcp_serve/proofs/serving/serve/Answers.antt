@@ -1,4 +1,4 @@
-use Rattle.srcp_serve.proofs.Names.{◌≡◌, ◌∙◌, arith, refl, ℕ, Option, Held, Trace, ServesCourse, AreTurns, Asks}
+use Rattle.srcp_serve.proofs.Names.{◌≡◌, ◌∙◌, arith, refl, ℕ, Option, Past, Trace, ServesCourse, AreTurns, Asks}
 use Rattle.std.proofs.Common.{rules}
 use Rattle.srcp_serve.proofs.ServingFollows.{fewer, serves_all, serves_first, serves_on}
 use Rattle.srcp_serve.proofs.DoorIsCalled.{counts_then, none_failed, asks_then, one_more_turn, turns_none}
@@ -38,7 +38,7 @@ same_trace : {D : Type 0} (trace_of : D → Trace) (turns : ℕ) (old : Trace) {
     → Asks (AreTurns turns) old (trace_of x) → Asks (AreTurns turns) old (trace_of y)
 same_trace trace_of turns old e h = rw e h
 
-same_served : {D : Type 0} (trace_of : D → Trace) (turns opened : ℕ) (core new : Held) (old : Trace)
+same_served : {D : Type 0} (trace_of : D → Trace) (turns opened : ℕ) (core new : Past) (old : Trace)
     {x y : D} → y ≡ x → ServesCourse turns opened core old new (trace_of x) → ServesCourse turns opened core old new (trace_of y)
 same_served trace_of turns opened core new old e s = rw e s
 

@@ -1,8 +1,5 @@
 use Rattle.srcp_serve.proofs.Names.{Ok, Err, ap, arith, refl, [], ReadCall, loses_reading, piece_of, Got}
-use Rattle.srcp_serve.specs.declared.tally.Tally.{Tally}
-use Rattle.srcp_door.proofs.CallsAreFair.{fair_read}
-use Rattle.srcp_serve.proofs.DoorIsCalled.{none_failed, one_failed, calls_none, calls_one}
-use Rattle.srcp_serve.proofs.OneCallFollows.{read_not, read_other, read_bytes}
+use Rattle.srcp_serve.proofs.ReadsFollow.{read_not, read_other, read_bytes}
 use Rattle.srcp_serve.proofs.serving.Server.read_in.Goals as goal
 
 pub returns-then-not-ready-clause-course : goal.returns-then-not-ready-clause-course
@@ -11,7 +8,7 @@ returns-then-not-ready-clause-course g c = read_not _ _ _ _ _ c.ready.ensures c.
 pub returns-in-Ok-Bytes-clause-course : goal.returns-in-Ok-Bytes-clause-course
 returns-in-Ok-Bytes-clause-course g c =
     read_bytes _ _ _ _ _ c.ready.ensures c.in-Ok-Bytes.count c.read.new.buf _ _ _ _ c.if-not-ready.false (omega (arith, c.read.auto.buf))
-    (rw c.in-Ok-Bytes.field-0-is at c.in-Ok-Bytes.ensures.trace) c.receive.ensures.fault c.receive.ensures.received c.is_ok.ensures.value
+    (rw c.in-Ok-Bytes.field-0-is at c.in-Ok-Bytes.ensures.trace) c.receive.ensures.says c.receive.ensures.happened c.is_ok.ensures.value
 
 pub returns-in-Ok-Nothing-clause-course : goal.returns-in-Ok-Nothing-clause-course
 returns-in-Ok-Nothing-clause-course g c =
@@ -31,31 +28,3 @@ pub returns-in-Err-clause-course : goal.returns-in-Err-clause-course
 returns-in-Err-clause-course g c =
     read_other _ _ _ _ _ c.ready.ensures (Err c.in-Err.field-0) c.read.new.buf _ c.if-not-ready.false (omega (arith, c.read.auto.buf))
     c.in-Err.ensures.trace _ refl refl
-
-pub returns-then-not-ready-clause-calls : goal.returns-then-not-ready-clause-calls
-returns-then-not-ready-clause-calls g c = calls_none _ _ _ _ c.requires
-
-pub returns-in-Ok-Bytes-clause-calls : goal.returns-in-Ok-Bytes-clause-calls
-returns-in-Ok-Bytes-clause-calls g c =
-    calls_one _ _ _ _ c.args.self.now _ refl (none_failed _ _ _ c.requires c.in-Ok-Bytes.ensures.ok) refl
-    (fair_read c.args.client.peer c.read.result _ c.read.new.buf c.read.ensures.count c.read.auto.buf) c.read.ensures.trace
-    c.read.ensures.limit
-
-pub returns-in-Ok-Nothing-clause-calls : goal.returns-in-Ok-Nothing-clause-calls
-returns-in-Ok-Nothing-clause-calls g c =
-    calls_one _ _ _ _ c.args.self.now _ refl (none_failed _ _ _ c.requires c.in-Ok-Nothing.ensures.ok) refl
-    (fair_read c.args.client.peer c.read.result _ c.read.new.buf c.read.ensures.count c.read.auto.buf) c.read.ensures.trace
-    c.read.ensures.limit
-
-pub returns-in-Ok-Ended-clause-calls : goal.returns-in-Ok-Ended-clause-calls
-returns-in-Ok-Ended-clause-calls g c =
-    calls_one _ _ _ _ c.args.self.now _ refl (none_failed _ _ _ c.requires c.in-Ok-Ended.ensures.ok) refl
-    (fair_read c.args.client.peer c.read.result _ c.read.new.buf c.read.ensures.count c.read.auto.buf) c.read.ensures.trace
-    c.read.ensures.limit
-
-pub returns-in-Err-clause-calls : goal.returns-in-Err-clause-calls
-returns-in-Err-clause-calls g c =
-    calls_one _ _ _ _ c.args.self.now _ refl
-    (one_failed _ _ _ _ c.requires (ap (λ (t : Tally). t.faults) c.fault.ensures) c.in-Err.ensures.err) refl
-    (fair_read c.args.client.peer c.read.result _ c.read.new.buf c.read.ensures.count c.read.auto.buf) c.read.ensures.trace
-    c.read.ensures.limit

@@ -12,6 +12,6 @@ returns-clause-course g c =
     makes_turn _ _ _ _ _
     _ _ _ _
     c.args.self.now.slots c.accept_one-opens.new.self.slots c.visit_slots.new.self.slots c.take_moment.ensures.course
-    c.take_moment.ensures.denied c.accept_one-opens.ensures.calls.asks
+    c.accept_one-opens.ensures.calls.asks
     (rw c.take_moment.ensures.slots at c.accept_one-opens.ensures.course)
     c.visit_slots.ensures.calls.asks c.visit_slots.ensures.course (returns-clause-calls g c).asks

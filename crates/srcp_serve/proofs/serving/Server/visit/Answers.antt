@@ -16,8 +16,8 @@ returns-then-not-closing-clause-course g c =
     let trace = g.D.Door.trace _ in
     let trace_r = g.D.Door.trace c.read_in.new.self.door.now in
     let trace_w = g.D.Door.trace _ in
-    visit_stays peer key _ _ trace trace_w c.closing.result
-    (exchanges_on peer key c.args.core.now c.read_in.new.core trace trace_r c.write_out.new.core trace_w
+    visit_stays peer key c.args.core.now trace _ trace_w c.closing.result
+    (exchanges_on peer key c.args.core.now trace c.read_in.new.core trace_r c.write_out.new.core trace_w
     c.write_out.ensures.calls.asks true c.if-read_in.ensures.course c.if-write_out.ensures.course)
     c.closing.ensures c.if-not-closing.true
 
@@ -43,22 +43,22 @@ returns-clause-course g c =
     let trace = g.D.Door.trace c.args.self.now.door.now in
     let trace_r = g.D.Door.trace c.read_in.new.self.door.now in
     let trace_mid = g.D.Door.trace c.else-read_in.self.door.now in
-    let first : Ends peer key old mid trace trace_mid =
+    let first : Ends peer key old trace mid trace_mid =
     elim c.else-read_in.branch [
       | else-read_in-via-then-read_in+then-write_out+else-not-closing w ↦
           let trace_w = g.D.Door.trace w.write_out.new.self.door.now in
           rw w.self-is (rw w.core-is (inr (
-            exchanges_on peer key old c.read_in.new.core trace trace_r w.write_out.new.core trace_w
+            exchanges_on peer key old trace c.read_in.new.core trace_r w.write_out.new.core trace_w
                 w.write_out.ensures.calls.asks true w.if-read_in.ensures.course w.if-write_out.ensures.course,
             sym w.closing.ensures ∙ w.if-not-closing.false,
           )))
       | else-read_in-via-then-read_in+else-write_out w ↦
           let trace_w = g.D.Door.trace w.write_out.new.self.door.now in
-          rw w.self-is (rw w.core-is (inl (exchanges_on peer key old c.read_in.new.core trace trace_r w.write_out.new.core trace_w
+          rw w.self-is (rw w.core-is (inl (exchanges_on peer key old trace c.read_in.new.core trace_r w.write_out.new.core trace_w
           w.write_out.ensures.calls.asks false w.if-read_in.ensures.course w.if-write_out.ensures.course)))
       | else-read_in-via-else-read_in w ↦
-          rw w.self-is (rw w.core-is (inl (exchanges_lost peer key old c.read_in.new.core trace trace_r w.if-read_in.ensures.course)))
+          rw w.self-is (rw w.core-is (inl (exchanges_lost peer key old trace c.read_in.new.core trace_r w.if-read_in.ensures.course)))
     ] in
-    visit_ends peer key old mid trace trace_mid
+    visit_ends peer key old trace mid trace_mid
     c.disconnect.new.core (g.D.Door.trace c.disconnect.new.self.door.now)
     c.disconnect.ensures.calls.asks c.disconnect.ensures.course first
