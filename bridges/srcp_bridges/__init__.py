@@ -1,5 +1,5 @@
-"""What the programs of bridges/ share, in four packages: `srcp`, `stations`, `page` and `plan`. Beside these: how a
-program begins and ends, its limits, its release, what it tells of itself, and stations without hardware."""
+"""The code shared by the programs of bridges/, in four packages: `srcp`, `stations`, `page` and `plan`. Beside these:
+how a program begins and ends, the limits, the release, the state of a program, and stations without hardware."""
 import sys
 
 # Each program can be read by Python 3.9, so that it comes this far.

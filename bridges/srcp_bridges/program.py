@@ -1,4 +1,4 @@
-"""How a program of this folder begins and ends, and what it says meanwhile."""
+"""How a program of this folder begins, prints messages, and ends."""
 import argparse
 import asyncio
 import contextlib
@@ -16,15 +16,15 @@ said: dict[str, str] = {}
 
 
 class Wrong(Exception):
-    """The words of a program are wrong, or a file that they name: `run` tells so, and ends the program."""
+    """The words of a program are wrong, or a file named by them: `run` tells the fault, and ends the program."""
 
 
 class CannotGoOn(Exception):
-    """What a program needs is another's: `run` tells so, and ends the program."""
+    """Another program has what this one needs: `run` tells the fault, and ends the program."""
 
 
 def say(text: str) -> None:
-    """Prints a message on standard error; what a connection that is tried again and again says, only once."""
+    """Prints a message on standard error; the message of a connection that is tried again and again only once."""
     about = text.partition(":")[0]
     if about not in ("server", "station", "broker") or said.get(about) != text:
         said[about] = text
@@ -33,12 +33,13 @@ def say(text: str) -> None:
 
 
 def drop(stream: TextIO) -> None:
-    """Has what is not written yet go nowhere."""
+    """Drops the output that is not written yet."""
     os.dup2(os.open(os.devnull, os.O_WRONLY), stream.fileno())
 
 
 def tell(text: str) -> None:
-    """Prints a text on standard output. Ends the program without a word once nobody reads that, as `head` wants it."""
+    """Prints a text on standard output. Ends the program without a word once the reader has gone, as `head` wants it.
+    """
     try:
         print(text, flush=True)
     except BrokenPipeError:
@@ -47,12 +48,12 @@ def tell(text: str) -> None:
 
 
 def printable(text: str) -> str:
-    """Returns a text without what a terminal would obey: that may come from anywhere."""
+    """Returns a text without bytes that a terminal would obey, since texts may come from anywhere."""
     return "".join(letter if letter.isprintable() else f"\\x{ord(letter):02x}" for letter in text)
 
 
 def unread(path: str, fault: Exception) -> str:
-    """Returns why a file cannot be read, also if that is because a unit of systemd does not see it."""
+    """Returns why a file cannot be read, also if a unit of systemd does not see the file."""
     home = os.path.abspath(path).startswith(("/home/", "/root/", "/run/user/"))
     if home and isinstance(fault, OSError) and "INVOCATION_ID" in os.environ:  # which systemd sets
         return "a unit does not see what is in /home (ProtectHome): put the file into /etc"
@@ -98,7 +99,7 @@ def parser(about: str | None) -> Arguments:
 
 
 def arguments(about: str | None) -> Arguments:
-    """Returns a parser of what every program of a session can be told; it adds its own."""
+    """Returns a parser of the words for every program with a session, which adds further words."""
     words = parser(about)
     words.add_argument("--host", default="127.0.0.1", help="where the server is (%(default)s)")
     words.add_argument("--port", type=PORT, default=4303, help="its port (%(default)s)")
@@ -108,8 +109,8 @@ def arguments(about: str | None) -> Arguments:
 
 
 def run(program: Coroutine[object, object, None]) -> None:
-    """Runs a program. Exit status 0: it was ended by SIGTERM, by Ctrl-C or by the end of its terminal (SIGHUP); 1: it
-    cannot go on; 2: its words are wrong. One that nohup starts ignores the end of its terminal."""
+    """Runs a program. Exit status 0: the program was ended by SIGTERM, by Ctrl-C or by the end of its terminal
+    (SIGHUP); 1: it cannot go on; 2: its words are wrong. A program under nohup ignores the end of its terminal."""
     async def until_told() -> None:
         task = asyncio.current_task()
         assert task

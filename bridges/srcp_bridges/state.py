@@ -11,7 +11,7 @@ from pathlib import Path
 
 
 def folder() -> Path:
-    """Returns the folder of such files: that of the unit, of the user's log-in, or of the user."""
+    """Returns the folder of these files: of the unit, of the user's log-in, or of the user."""
     if unit := os.environ.get("RUNTIME_DIRECTORY"):
         return Path(unit)
     return Path(os.environ.get("XDG_RUNTIME_DIR") or Path.home() / ".local" / "state", "srcp_bridges")
@@ -33,23 +33,23 @@ def told_at(port: int) -> Iterator[dict]:
 
 
 def stations(port: int) -> list[dict]:
-    """Returns what the drivers of this machine tell of their stations, if they are at the server of that port."""
+    """Returns the states of the stations of this machine's drivers at the server of this port."""
     return [told["station"] for told in told_at(port) if told["station"]]
 
 
 def names(port: int) -> dict[int, str]:
-    """Returns whose the sessions at the server of that port are, as far as programs of this machine tell."""
+    """Returns whose the sessions at the server of this port are, as far as programs of this machine tell."""
     return {int(session): name for told in told_at(port) for session, name in told["sessions"][str(port)].items()}
 
 
 def driven(port: int) -> set[int]:
-    """Returns the buses of which a driver of this machine is at the server of that port."""
+    """Returns the buses with a driver of this machine at the server of this port."""
     return {int(station["bus"]) for station in stations(port)}
 
 
 class State:
-    """`sessions` has whose each session is, by the server's port and its id; `station` what a driver tells of
-    itself."""
+    """`sessions` has whose each session is, by the server's port and the session's id; `station` the state of a driver.
+    """
 
     def __init__(self) -> None:
         self.sessions: dict[int, dict[int, str]] = {}
@@ -58,7 +58,7 @@ class State:
         atexit.register(self.remove)
 
     def begins(self, port: int, session: int, whose: str) -> None:
-        """Tells that a session is this program's. `whose` names whom it is for, if that is somebody else."""
+        """Tells that a session is this program's. `whose` names whom the session is for, if somebody else."""
         name = Path(sys.argv[0]).name
         self.sessions.setdefault(port, {})[session] = f"{name}: {whose}" if whose else name
         self.write()
@@ -68,13 +68,13 @@ class State:
             self.write()
 
     def tell_station(self, **station: object) -> None:
-        """Tells how a driver's station is, if that differs from what was told last."""
+        """Tells how a driver's station is, if changed since the last time."""
         if self.station != station:
             self.station = station
             self.write()
 
     def write(self) -> None:
-        """Writes the file anew: all of it, or, if it cannot be written, nothing."""
+        """Writes the file anew, whole or not at all."""
         try:
             self.path.parent.mkdir(parents=True, exist_ok=True)
             new = self.path.with_suffix(".new")
