@@ -145,7 +145,7 @@ B==b3======t2===b4==D
 """, legend_of(button={name: name for name in "ABCD"}, turnout={"t1": [1, 1, 1], "t2": [1, 1, 1]},
                sensor={f"b{number}": [1, number] for number in range(1, 5)})
 # The turnouts of routes that name their ends alone.
-ENDS: tuple = (
+ENDS: tuple[tuple[tuple[str, str], dict[str, list[list[int]]]], ...] = (
     (STATION, {"W Pö": [[1, 1, 0]], "W Q": [[1, 1, 1]], "E Pö": [[1, 2, 1]], "Q E": [[1, 2, 0]]}),
     (THROATS, {"W A1": [[1, 1, 0], [1, 2, 1]], "W A2": [[1, 1, 0], [1, 2, 0]], "A4 W": [[1, 3, 0], [1, 1, 1]],
                "A3 E": [[1, 7, 0], [1, 6, 1]], "E A4": [[1, 6, 1], [1, 7, 1]], "A1 E": [[1, 5, 1], [1, 6, 0]]}),

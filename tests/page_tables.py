@@ -41,6 +41,7 @@ NEWS = {"CHANGELOG.md", "CONTRIBUTING.md", "packaging/changelog"}
 NO_LIMITS = (
     ("srcp_core/specs/Handshake.antt", {4, 5}, "bytes of a version"),
     ("srcp_core/src/handshake.rt", {4, 5}, "bytes of a version"),
+    ("srcp_drive/specs/Hearing.antt", {52, 53}, "bytes of digits"),
     ("srcp_grammar/specs/Grammar.antt", {3, 4, 5}, "words of a command"),
     ("srcp_info/specs/Key.antt", {3, 4, 5, 6}, "places of groups"),
     ("srcp_info/specs/WellFormed.antt", {32, 256}, "bytes of a text"),

@@ -79,13 +79,13 @@ class Z21LastWords(LastWords, Z21Case):
 
     def test_what_is_removed_while_there_is_no_driver(self):
         """The station keeps speeds while its power is off, and who comes then knows nothing of that locomotive. One of
-        them a hand throttle drove, and one is the last of many."""
-        self.station.loses, many, drive = 0, range(101, 241), (3, 77, 240)
+        them a hand throttle drove, and one is the last of more than the words have room for."""
+        self.station.loses, many, drive = 0, range(101, 251), (3, 77, 250)
         self.throttle.flood([f"INIT 1 GL {n} N 1 28 0" for n in many])
-        self.throttle.order("SET 1 GL 240 1 14 28")
+        self.throttle.order("SET 1 GL 250 1 14 28")
         self.station.hand(77, speed=40)
         self.has("100 INFO 1 GL 77 1 40 126")
-        self.track(lambda s: all(n in s.cabs for n in many) and s.cabs[240] == (63, 1), "all have been told")
+        self.track(lambda s: all(n in s.cabs for n in many) and s.cabs[250] == (63, 1), "all have been told")
         time.sleep(QUIET)
         self.driver.end(signal.SIGKILL)
         self.is_stopped()

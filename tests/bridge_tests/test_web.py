@@ -258,12 +258,14 @@ class Web(WebCase):
         self.has("100 INFO 1 POWER ON", "100 INFO 1 GL 3 1 0 28")
 
     def test_what_was_made_before_a_stop_is_refused(self):
-        """Before a STOP ALL of another page, an emergency stop, and a stop of another program. V 0 is not refused."""
+        """Before a STOP ALL of another page, an emergency stop, and stops of other programs: of one, and of all by the
+        text alone. V 0 is not refused."""
         one, two = Events(self.port), Events(self.port)
         one.order("INIT 1 GL 3 N 1 28 5", "SET 1 GL 3 0 9 28")
         stops = [lambda: self.assertEqual(one.post("", "/stop"), "200 OK"),
                  lambda: self.assertEqual(one.post("1 3", "/stop"), "200 OK"),
-                 lambda: self.throttle.order("SET 1 GL 3 2 0 28")]
+                 lambda: self.throttle.order("SET 1 GL 3 2 0 28"),
+                 lambda: self.throttle.order("SET 1 POWER ON stop all")]
         for stop in stops:
             until(lambda: two.rows.get((1, "GL", 3, "does"), {}).get("v") == 9, "it drives")
             seen = two.seen("SET 1 GL 3")

@@ -4,6 +4,7 @@ use Rattle.std.specs.Prelude.{if◌then◌else◌, is_some, slice_get, slice_set
 use Rattle.std.specs.List.{position}
 use Rattle.std.specs.Option.{option_and_then, option_map, option_map_or}
 use Rattle.srcp_driver.specs.Cabs.{has_passed}
+use Rattle.srcp_driver.specs.Drives.{is_same_way}
 use Rattle.srcp_driver.specs.Switches.{is_switch_to_put, is_to_tell, switch_aged, switch_asked, switch_forgotten}
 use Rattle.srcp_driver.specs.Switches.{switch_joined, switch_kept, switch_refused, switch_reported, switch_row}
 use Rattle.srcp_driver.specs.Switches.{switch_told}
@@ -39,6 +40,10 @@ board_start count kind = record {
 abbrev pub switch_at : List Switch → ℕ → (Switch → Switch) → List Switch
 switch_at switches n change =
     option_map_or (λ s. slice_set switches n (change s)) (slice_get switches n) switches
+
+-- the row of the one at this place says that, on or off; so it does if there is none
+abbrev pub is_row : List Switch → ℕ → Bool → Bool
+is_row switches n on = option_map_or (λ s. is_same_way s.row on) (slice_get switches n) true
 
 -- the station has begun anew, or is gone: it keeps what it was told, or not
 abbrev pub begun : Board → List Switch

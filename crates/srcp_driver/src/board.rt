@@ -1,8 +1,8 @@
 //! All functions, or all turnouts, of a station: what each event makes of them, and which order is told next.
 
 ghost use Rattle.std.specs.Prelude.{◌≡◌, IfOk, false};
-ghost use Rattle.srcp_driver.specs.Board.{begun, board_heard, board_puts, board_start, board_step, board_tells, may_go};
-ghost use Rattle.srcp_driver.specs.Board.{next_setting, setting_put, setting_to_put, setting_told};
+ghost use Rattle.srcp_driver.specs.Board.{begun, board_heard, board_puts, board_start, board_step, board_tells, is_row};
+ghost use Rattle.srcp_driver.specs.Board.{may_go, next_setting, setting_put, setting_to_put, setting_told};
 ghost use Rattle.srcp_driver.specs.declared.settings.BoardEvent.TheVariants.{Reply};
 
 use crate::settings::{BoardEvent, Kind, Setting, Settings};
@@ -207,6 +207,16 @@ impl Switchboard {
             self.note_put(setting);
         }
         order
+    }
+
+    /// Returns whether the row of the function or turnout at this place says that, on or off. So it does of none.
+    pub fn is_row(&self, place: usize, is_on: bool) -> bool
+        ensures { result ≡ is_row self.now.switches place is_on }
+    {
+        match self.switches.get(place) {
+            Some(switch) => switch.row == is_on,
+            None => true,
+        }
     }
 
     /// Takes in an event, and returns what the station is told then, and what the registry is asked. `may_tell` says

@@ -15,7 +15,7 @@ use std::alloc::{AllocError, Global};
 use std::string::String;
 
 /// The version of what clients are told, which the welcome line has too, and that of the release.
-const VERSION: &str = "1.0 (release 1.19)";
+const VERSION: &str = "1.0 (release 1.20)";
 
 /// The help for the option `--config`.
 const CONFIG_HELP: &str = "The configuration: a TOML document with the port and the buses";

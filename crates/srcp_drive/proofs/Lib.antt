@@ -1,0 +1,4 @@
+pub mod FirstLaws
+pub mod LineLaws
+pub mod ReplyLaws
+pub mod Settlings
