@@ -206,6 +206,18 @@ def wrong_body_of_an_unknown_form_fails(_: str) -> str | None:
             "low: 1 refused, 1 failed in 2 checks, 1 alone", "1 refused, 1 failed"])
 
 
+def method_is_known_in_any_file(_: str) -> str | None:
+    """The prover names a method by the module that declares its type, and an edit of another file has to be judged
+    beside others."""
+    texts = {"src/pair.rt": "pub struct Pair {\n    one: u32,\n}\n",
+             "src/sum.rt": "impl Pair {\n    pub fn sum(&self) -> u32 {\n        self.one\n    }\n}\n"}
+    function = function_at("low", "src/sum.rt", texts, texts["src/sum.rt"].index("self.one"))
+    own = ("low::pair::Pair::sum", "low::sum::fn::Pair::sum::any", "low::pair::fn::Pair::sum::any+FnMut::call_mut")
+    others = ("low::pair::sum", "low::pair::Pair::sums", "low::other::Pair::sum", "low::sum::fn::sum::any")
+    wrong = [path for path in own + others if (function is not None and function.has(path)) != (path in own)]
+    return f"{function} takes these wrongly: {', '.join(wrong)}" if wrong else None
+
+
 def law_has_to_refuse_its_edits(_: str) -> str | None:
     """An edit of a definition and its code fails if no law is refused: the edit is proved, or the function alone is
     refused."""
@@ -280,7 +292,7 @@ def without_wrong_body(crate: str) -> list[str]:
     """Returns the public functions of a crate that no edit changes, by their names."""
     texts = texts_of(TOP / "crates" / crate)
     public = {function for file, text in texts.items() for head in FUNCTION.finditer(text)
-              if (function := function_at(crate, file, text, head.start())) and function.is_public}
+              if (function := function_at(crate, file, texts, head.start())) and function.is_public}
     for folder in ("must-fail", "refused"):
         for file in (TOP / "crates" / crate / folder).glob("*.edit"):
             edit = parse_edit(file.stem, Kind.BODY, file.read_text())
@@ -313,7 +325,8 @@ WRONG_BODY_CASES = (wrong_bodies_are_tried_together, wrong_bodies_of_one_functio
                     wrong_body_that_applies_nowhere_fails, wrong_body_that_is_proved_fails,
                     wrong_body_that_another_function_shows_is_tried_alone, wrong_body_that_does_not_compile_fails,
                     wrong_body_that_the_text_of_a_proof_refuses_is_counted,
-                    wrong_body_of_an_unknown_form_fails, law_has_to_refuse_its_edits,
+                    wrong_body_of_an_unknown_form_fails, method_is_known_in_any_file,
+                    law_has_to_refuse_its_edits,
                     nothing_is_refused_of_a_crate_that_is_not_proved,
                     wrong_body_that_is_not_tried_in_time_is_told, runner_that_is_ended_leaves_nothing,
                     each_public_function_has_a_wrong_body, each_wrong_body_applies)

@@ -33,8 +33,10 @@ class Change:
 
 @dataclass(frozen=True)
 class Function:
-    """A function, by the path of its module, its type and its trait, if it has such, and its name."""
+    """A function, by the path of its module, its type and its trait, if it has such, and its name. `home` is the module
+    that declares the type: the prover names a method by that module, in whatever file the method stands."""
     module: str
+    home: str
     type: str
     trait: str
     name: str
@@ -42,9 +44,11 @@ class Function:
 
     def has(self, path: str) -> bool:
         """Tells whether the prover's path is of the function, or of a closure in its body."""
-        owned = f"{self.module}::{self.type}{self.trait}::" if self.type else f"{self.module}::"
-        closures = (f"{self.module}::fn::{self.name}::", f"{owned}fn::{self.name}::", f"{owned}{self.name}::")
-        return path == owned + self.name or path.startswith(closures)
+        owner = f"{self.type}{self.trait}::" if self.type else ""
+        own = tuple(f"{module}::{owner}{self.name}" for module in (self.module, self.home))
+        closures = tuple(f"{module}::{within}{self.name}::" for module in (self.module, self.home)
+                         for within in (owner, f"fn::{owner}", f"{owner}fn::"))
+        return path in own or path.startswith(closures)
 
 
 @dataclass(frozen=True)
@@ -100,10 +104,18 @@ def module_of(crate: str, file: str) -> str:
     return "::".join([crate, *(parts if parts not in (["lib"], ["main"]) else [])])
 
 
-def function_at(crate: str, file: str, text: str, at: int) -> Function | None:
+def home_of(crate: str, type: str, texts: Texts) -> str | None:
+    """Returns the module that declares a type of the crate, if one alone does."""
+    declared = re.compile(rf"^(?:pub(?:\([^)]*\))? )?(?:struct|enum|trait) {type}\b", re.M)
+    files = [file for file, text in texts.items() if file.startswith("src/") and declared.search(text)]
+    return module_of(crate, files[0]) if len(files) == 1 else None
+
+
+def function_at(crate: str, file: str, texts: Texts, at: int) -> Function | None:
     """Returns the function in whose lines a place of a file stands. Relies on the layout that `rt fmt` makes."""
     if not file.startswith("src/"):
         return None
+    text = texts[file]
     heads = [head for head in FUNCTION.finditer(text) if head.start() <= at]
     if not heads:
         return None
@@ -114,7 +126,9 @@ def function_at(crate: str, file: str, text: str, at: int) -> Function | None:
     owners = [owner for owner in OWNER.finditer(text, 0, head.start())] if head[1] else []
     trait, of, type = owners[-1].groups(default="") if owners else ("", "", "")
     is_public = bool(trait) or head[0].lstrip().startswith("pub fn")
-    return Function(module_of(crate, file), type, trait + of, head[2], is_public)
+    module = module_of(crate, file)
+    home = home_of(crate, type, texts) if type else None
+    return Function(module, home or module, type, trait + of, head[2], is_public)
 
 
 @dataclass(frozen=True)
@@ -136,7 +150,7 @@ def apply(crate: str, edit: Edit, texts: Texts) -> Applied | Fault:
         if (times := text.count(change.old)) != 1:
             return Fault(f"its old text stands {times} times in {change.file}: {change.old.strip()}")
         at = text.index(change.old)
-        function = function_at(crate, change.file, text, at + len(change.old) - len(change.old.lstrip()))
+        function = function_at(crate, change.file, made, at + len(change.old) - len(change.old.lstrip()))
         is_outside |= function is None
         functions |= {function} if function else set()
         made[change.file] = text.replace(change.old, change.new)
