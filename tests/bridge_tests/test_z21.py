@@ -28,10 +28,10 @@ class Z21Case(StationCase):
 
     def settles(self):
         """Returns once the driver tells nothing again, since all is confirmed. It has looked at that several times: on
-        a busy machine a driver that has told nothing for a while may not have run."""
+        a busy machine a driver that has told nothing for a while may not have run. One that never looks is broken."""
         is_asked = any(" GL " in row for row in rows(self.server.port))
-        self.track(lambda s: time.monotonic() - s.commanded > 2 * QUIET and (s.looked > 5 or not is_asked),
-                   "all is confirmed")
+        least = 2 * QUIET, 12 * QUIET
+        self.track(lambda s: time.monotonic() - s.commanded > least[is_asked and s.looked < 6], "all is confirmed")
 
     def drives_unheard(self):
         """A hand begins to drive locomotive 3, and the report of it is lost."""
