@@ -1,3 +1,4 @@
+pub mod BoardLaws
 pub mod FirstLaws
 pub mod LineLaws
 pub mod ReplyLaws

@@ -1,5 +1,5 @@
 -- What holds of all lines, and of every desk.
-use Rattle.std.specs.Prelude.{◌≡◌, ℕ, ◌≤◌, Bool, false, true, List, [], ◌++◌, Option, Some, None, codes, is_some}
+use Rattle.std.specs.Prelude.{◌≡◌, ℕ, ◌≤◌, Bool, false, true, List, [], ◌∷◌, ◌++◌, Option, Some, None, codes, is_some}
 use Rattle.srcp_driver.specs.declared.event.Event.TheVariants as event
 use Rattle.srcp_info.specs.Limits.{greatest_u64}
 use Rattle.srcp_info.specs.Line.{reply_line}
@@ -10,7 +10,7 @@ use Rattle.srcp_info.specs.declared.change.Reply.TheVariants as reply
 use Rattle.srcp_info.specs.declared.key.Key.{Key}
 use Rattle.srcp_info.specs.declared.value.Value.TheVariants.{Power}
 use Rattle.srcp_stations.specs.declared.tell.Tell.TheVariants as station
-use Rattle.srcp_drive.specs.Desks.{Desk, TakesIn, acted, driven, next, orders_text, taken}
+use Rattle.srcp_drive.specs.Desks.{Desk, TakesIn, acted, desk_of, driven, next, orders_text, taken, taken_so}
 use Rattle.srcp_drive.specs.Hearing.{Hears}
 use Rattle.srcp_drive.specs.Orders.{told}
 use Rattle.srcp_drive.specs.declared.hearing.Heard.{Heard}
@@ -48,3 +48,13 @@ StopAllIsFirst = (d : Desk) (key : Key) (stamp : ℕ) (on : Bool) → d.driver.i
 abbrev pub DriverIsFirst : Type 0
 DriverIsFirst = (d : Desk) → is_some (acted d event.Ready).tell ≡ true
     → (next d).text ≡ orders_text (driven d event.Ready) (acted d event.Ready).tell (acted d event.Ready).put
+
+-- a desk once these lines told this, the newest first
+abbrev pub course : ℕ → List (Option Heard) → Desk
+course bus [] = desk_of bus
+course bus (told ∷ past) = (taken_so (course bus past) told).desk
+
+-- neither functions nor turnouts wait for a reply of the registry: nothing is asked for them that the desk would drop
+abbrev pub BoardsAskNothing : Type 0
+BoardsAskNothing = (bus : ℕ) (past : List (Option Heard))
+    → ((course bus past).functions.waiting ≡ None) × ((course bus past).turnouts.waiting ≡ None)

@@ -1,6 +1,7 @@
 //! Laws of lines and desks. Each function does nothing: its `ensures` is the law.
 
-ghost use Rattle.srcp_drive.specs.Laws.{DriverIsFirst, LinesDiffer, NothingChanges, RepliesAreHeard, StopAllIsFirst};
+ghost use Rattle.srcp_drive.specs.Laws.{BoardsAskNothing, DriverIsFirst, LinesDiffer, NothingChanges};
+ghost use Rattle.srcp_drive.specs.Laws.{RepliesAreHeard, StopAllIsFirst};
 
 /// States that no line tells two things, also none that tells of nothing.
 pub fn lines_differ()
@@ -26,4 +27,9 @@ pub fn stop_all_is_first()
 /// States that a function or a turnout is told only if the driver has nothing to tell.
 pub fn driver_is_first()
     ensures { DriverIsFirst }
+{}
+
+/// States that nothing is asked of the registry for functions and turnouts, after any lines: no order is dropped.
+pub fn boards_ask_nothing()
+    ensures { BoardsAskNothing }
 {}
