@@ -149,7 +149,7 @@ functions_heard b place (on ∷ bits) = functions_heard (function_heard b place 
 -- the row of the locomotive at a place has it do this
 unfoldable pub cab_does : Desk → ℕ → Drive → Bool → List Bool → Taken
 cab_does d n drive listed functions = one (record d {
-  engines = kept d.engines n drive.is_forward;
+  engines = kept d.engines n drive;
   functions = functions_heard d.functions (n * most_functions) functions;
 }) (event.Row n drive listed)
 

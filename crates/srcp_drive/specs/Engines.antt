@@ -2,7 +2,7 @@
 use Rattle.std.specs.Prelude.{ℕ, ◌+◌, ◌*◌, ◌-◌, ◌/◌, ◌==◌, Bool, true, false, ◌&&◌, List, Option, Some, None}
 use Rattle.std.specs.Prelude.{if◌then◌else◌, nat_le, nat_lt, not, slice_get, slice_set}
 use Rattle.std.specs.List.{position}
-use Rattle.std.specs.Option.{option_and_then, option_map_or, option_or}
+use Rattle.std.specs.Option.{option_and_then, option_map_or, option_or, unwrap_or}
 use Rattle.srcp_driver.specs.declared.drive.Drive.{Drive}
 use Rattle.srcp_driver.specs.declared.drive.Speed.{Speed}
 use Rattle.srcp_driver.specs.declared.drive.Speed.TheVariants as speed
@@ -20,7 +20,7 @@ most_cabs = 128
 
 -- a place that is free
 abbrev pub free : Engine
-free = record { address = 0; steps = 0; is_forward = true }
+free = record { address = 0; steps = 0; is_forward = true; halts = None }
 
 -- the address is one of a locomotive
 abbrev pub is_cab : ℕ → Bool
@@ -55,17 +55,29 @@ made engines address letter steps = if is_cab address
       address = address;
       steps = if is_driven letter then steps else 0;
       is_forward = true;
+      halts = None;
     })) (place_for engines address) engines
     else engines
 
--- its row says in which direction it is to drive
-abbrev pub kept : List Engine → ℕ → Bool → List Engine
-kept engines n forward = option_map_or
-    (λ (engine : Engine). slice_set engines n (record engine { is_forward = forward })) (slice_get engines n) engines
+abbrev pub is_halt : Speed → Bool
+is_halt speed.Halt = true
+is_halt other = false
 
--- so does what the registry is asked: the row of an emergency stop does not say that
+-- its row has it do this
+abbrev pub kept : List Engine → ℕ → Drive → List Engine
+kept engines n drive = option_map_or
+    (λ (engine : Engine). slice_set engines n (record engine {
+      is_forward = drive.is_forward;
+      halts = if is_halt drive.speed then None else engine.halts;
+    })) (slice_get engines n) engines
+
+-- the registry is asked to have it make an emergency stop: the row of such a stop does not say the direction
+abbrev pub halted : List Engine → ℕ → Bool → List Engine
+halted engines n forward = option_map_or
+    (λ (engine : Engine). slice_set engines n (record engine { halts = Some forward })) (slice_get engines n) engines
+
 abbrev pub turned : List Engine → Option Put → List Engine
-turned engines (Some (put.Cab n drive)) = kept engines n drive.is_forward
+turned engines (Some (put.Cab n drive)) = if is_halt drive.speed then halted engines n drive.is_forward else engines
 turned engines other = engines
 
 -- the greatest speed of a row: that of the row, or else the steps of the decoder
@@ -81,22 +93,22 @@ scaled engine v vmax =
     if nat_lt (step_of v (top_of engine vmax)) greatest_step then step_of v (top_of engine vmax) else greatest_step
 
 -- the mode of an emergency stop, and that of a drive forward
-abbrev pub halts : ℕ
-halts = 2
+abbrev pub stop_mode : ℕ
+stop_mode = 2
 
-abbrev pub forward : ℕ
-forward = 1
+abbrev pub forward_mode : ℕ
+forward_mode = 1
 
 -- how fast a row has it drive
 abbrev pub speed_of : Engine → ℕ → ℕ → ℕ → Speed
 speed_of engine mode v vmax =
-    if mode == halts then speed.Halt else (if v == 0 then speed.Stand else speed.Step (scaled engine v vmax))
+    if mode == stop_mode then speed.Halt else (if v == 0 then speed.Stand else speed.Step (scaled engine v vmax))
 
--- what a row has it do: an emergency stop keeps its direction
+-- what a row has it do: an emergency stop is in the direction asked for, or else keeps its own
 abbrev pub drive_of : Engine → State → Drive
 drive_of engine state = record {
   speed = speed_of engine state.mode state.v state.vmax;
-  is_forward = if state.mode == halts then engine.is_forward else state.mode == forward;
+  is_forward = if state.mode == stop_mode then unwrap_or engine.halts engine.is_forward else state.mode == forward_mode;
 }
 
 -- .. of the locomotive at a place, if that is driven

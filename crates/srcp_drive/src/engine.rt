@@ -2,7 +2,7 @@
 
 ghost use Rattle.std.specs.Prelude.{◌≡◌, ◌<◌, ◌==◌, IfSome, position};
 ghost use Rattle.srcp_drive.specs.declared.engine.Engine.{Engine as EngineRecord};
-ghost use Rattle.srcp_drive.specs.Engines.{cab_at, drive_at, drive_of, free, is_cab, is_driven, kept, made};
+ghost use Rattle.srcp_drive.specs.Engines.{cab_at, drive_at, drive_of, free, is_cab, is_driven, is_halt, kept, made};
 ghost use Rattle.srcp_drive.specs.Engines.{place_for, place_in, place_of, scaled, speed_of, top_of, turned};
 
 use srcp_driver::{Drive, Put, Speed};
@@ -21,6 +21,8 @@ pub(crate) struct Engine {
     pub steps: u32,
     /// Whether the row said last that the locomotive is to drive forward.
     pub is_forward: bool,
+    /// Whether the registry was asked for an emergency stop forward, or backward, until a row says that stop.
+    pub halts: Option<bool>,
 }
 
 /// Holds what the row of a locomotive says of how it drives.
@@ -42,6 +44,7 @@ pub(crate) fn free() -> Engine
         address: 0,
         steps: 0,
         is_forward: true,
+        halts: None,
     }
 }
 
@@ -115,31 +118,46 @@ pub(crate) fn make(engines: &mut [Engine], address: u32, letter: Letter, steps: 
                 address,
                 steps: if is_driven(letter) { steps } else { 0 },
                 is_forward: true,
+                halts: None,
             };
         }
     }
 }
 
-/// Notes in which direction a locomotive is to drive.
-pub(crate) fn turn(engines: &mut [Engine], n: usize, is_forward: bool)
-    ensures { engines.new ≡ kept engines.old n is_forward }
+/// Notes what a row has a locomotive do.
+pub(crate) fn turn(engines: &mut [Engine], n: usize, drive: Drive)
+    ensures { engines.new ≡ kept engines.old n drive }
 {
     if n < engines.len() {
         let engine = engines[n];
         engines[n] = Engine {
-            is_forward,
+            is_forward: drive.is_forward,
+            halts: if halts(drive) { None } else { engine.halts },
             ..engine
         };
     }
 }
 
-/// Notes in which direction a locomotive is to drive by what the registry is asked. The row of an emergency stop does
-/// not say that.
+/// Returns whether a locomotive makes an emergency stop.
+fn halts(drive: Drive) -> bool
+    ensures { result ≡ is_halt drive.speed }
+{
+    matches!(drive.speed, Speed::Halt)
+}
+
+/// Notes that the registry is asked to have a locomotive make an emergency stop: the row of such a stop does not say
+/// the direction.
 pub(crate) fn turn_asked(engines: &mut [Engine], put: Option<Put>)
     ensures { engines.new ≡ turned engines.old put }
 {
     if let Some(Put::Cab(n, drive)) = put {
-        turn(engines, n, drive.is_forward);
+        if halts(drive) && n < engines.len() {
+            let engine = engines[n];
+            engines[n] = Engine {
+                halts: Some(drive.is_forward),
+                ..engine
+            };
+        }
     }
 }
 
@@ -184,12 +202,13 @@ impl Engine {
         }
     }
 
-    /// Returns what a row has the locomotive do. An emergency stop keeps its direction.
+    /// Returns what a row has the locomotive do. An emergency stop is in the direction asked for, or else in that of
+    /// before.
     fn drive_of(self, state: State) -> Drive
         ensures { result ≡ drive_of self state }
     {
         let is_forward = if state.mode == DriveMode::EmergencyStop as u32 {
-            self.is_forward
+            self.halts.unwrap_or(self.is_forward)
         } else {
             state.mode == DriveMode::Forward as u32
         };

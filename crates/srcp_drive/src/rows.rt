@@ -110,7 +110,7 @@ impl DriverDesk {
         ensures desk { self.new ≡ (cab_does self.old n drive is_listed functions.now).desk }
         ensures text { result.items ≡ (cab_does self.old n drive is_listed functions.now).text }
     {
-        turn(&mut self.engines, n, drive.is_forward);
+        turn(&mut self.engines, n, drive);
         hear_functions(&mut self.functions, n * MOST_FUNCTIONS, functions);
         self.drive(Event::Row {
             cab: n,
