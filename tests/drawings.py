@@ -154,6 +154,18 @@ ENDS: tuple[tuple[tuple[str, str], dict[str, list[list[int]]]], ...] = (
               "Y8 L": [[1, 7, 1], [1, 6, 1], [1, 5, 1], [1, 4, 1], [1, 3, 1], [1, 2, 1], [1, 1, 1]]}),
     (ONE_MOTOR, {"A C": [[1, 1, 0]], "B D": [[1, 1, 0]], "A D": [[1, 1, 1]], "D A": [[1, 1, 1]]}),
     (CROSSING, {"A D": [], "B C": []}))
+# What is found of routes of the station that name their ends and their signal alone, and what if the blocks are written
+# out too: a route of which one sensor lies behind all turnouts has no sections.
+BOTH, LAST = [[1, 5], [1, 2]], [[1, 4]]
+BEHIND = (
+    ("W Pö", {"signal": [1, 11, 1, 0]}, {"turnouts": [[1, 1, 0]], "blocks": BOTH, "sections": BOTH}),
+    ("W Pö", {"signal": [1, 11, 1, 0], "blocks": LAST}, {"turnouts": [[1, 1, 0]], "blocks": LAST, "sections": BOTH}),
+    ("W Pö", {"signal": [1, 11, 1, 0], "sections": []}, {"turnouts": [[1, 1, 0]], "blocks": BOTH, "sections": []}),
+    ("W Pö", {"signal": [1, 11, 1, 0], "turnouts": [[1, 1, 0]]}, {"blocks": [], "sections": []}),
+    ("Q E", {"signal": [1, 13, 1, 0]}, {"turnouts": [[1, 2, 0]], "blocks": LAST, "sections": []}),
+    ("E Pö", {"signal": [1, 12, 1, 0]}, {"turnouts": [[1, 2, 1]], "blocks": [], "sections": []}),
+    ("W Q", {"signal": [1, 12, 1, 0]}, {"turnouts": [[1, 1, 1]], "blocks": [], "sections": []}),
+    ("W Q", {}, {"turnouts": [[1, 1, 1]], "blocks": [], "sections": []}))
 # Without its buttons the station has two ways from W to E.
 PASSING = STATION[0].replace("=Pö=", "====").replace("=Q=", "==="), "".join(
     f"{line}\n" for line in STATION[1].splitlines() if not line.startswith(("'Pö'", "Q")))
@@ -161,7 +173,7 @@ NO_ENDS = (
     ("no track leads", STATION, ("W E", "Pö Q", "W p1", "W West")), ("no track leads", THROATS, ("A1 A2", "W E")),
     ("no track leads", ONE_MOTOR, ("B C",)), ("no track leads", CROSSING, ("A C",)),
     ("several tracks lead", PASSING, ("W E", "E W")))
-RANDOM = 400  # drawings at random
+RANDOM = 800  # drawings at random
 
 
 def routes_of_drawings(program):
@@ -175,17 +187,27 @@ def routes_that_a_drawing_does_not_have(program):
                              fault_told("plan: route 1: no track leads over its turnouts")) for plan in plans)
 
 
-def keys_of(ends, turnouts=None):
-    """The keys of a route by its two ends, and by its turnouts, if they are written out."""
+def keys_of(ends, **keys):
+    """The keys of a route by its two ends, and what else is written out."""
     begin, end = ends.split()
-    return f"from = '{begin}'\nto = '{end}'" + ("" if turnouts is None else f"\nturnouts = {turnouts}")
+    return "\n".join([f"from = '{begin}'", f"to = '{end}'", *(f"{key} = {value!r}" for key, value in keys.items())])
 
 
-def course(program, plan, count):
-    """What is ordered as each of these routes is set and given back, one after the other."""
-    lines = ["200 OK GO 2", *["200 OK"] * count]
+def course(program, plan, count, sensors=()):
+    """What is ordered as each of these routes is set and given back, one after the other: while one of the sensors of
+    bus 1 is occupied, and as a train comes to them and leaves them."""
+    def told(values):
+        return [f"100 INFO 1 FB {sensor} {value}" for value, of in values for sensor in of]
+
+    ready = ["200 OK"] * 20
+    begins = ["200 OK GO 2", *ready]  # whose orders stand between those of one sensor and those of the next
+    lines = [*begins, *told([(0, sensors)])]
     for number in range(1, count + 1):
-        lines += [line for port in (1, 0) for line in (f"100 INFO 3 GA {number} {port} 1", *["200 OK"] * 20)]
+        asks, gives = ([f"100 INFO 3 GA {number} {port} 1", *ready] for port in (1, 0))
+        for sensor in sensors:
+            lines += [*told([(1, [sensor])]), *asks, *gives, *told([(0, [sensor])]), *begins]
+        for order in (sensors, sensors[::-1]):
+            lines += [*asks, *told([(1, order)]), "200 OK", *told([(0, order)]), *ready, *asks, *gives, *begins]
     return check_document(program, plan, ("interlock", "--plan"), "".join(f"1.000 {line}\n" for line in lines).encode())
 
 
@@ -194,7 +216,7 @@ def routes_that_name_their_ends_alone(program):
     from one to the other, the plan is refused."""
     for drawing, routes in ENDS:
         alone = plan_of(*drawing, *map(keys_of, routes))
-        written = plan_of(*drawing, *(keys_of(ends, turnouts) for ends, turnouts in routes.items()))
+        written = plan_of(*drawing, *(keys_of(ends, turnouts=turnouts) for ends, turnouts in routes.items()))
         told, *want = check_document(program, written, ("check", "--plan")), course(program, written, len(routes))
         got = [check_document(program, alone, ("check", "--plan")), course(program, alone, len(routes))]
         if got != [told, *want] or told[0]:
@@ -204,43 +226,58 @@ def routes_that_name_their_ends_alone(program):
         for fault, drawing, ends in NO_ENDS for plan in (plan_of(*drawing, keys_of(each)) for each in ends))
 
 
+def sensors_behind_a_signal(program):
+    """They are the blocks and the sections of a route that names its ends alone, if these are not written out."""
+    return first_difference(
+        (keys, *(course(program, plan_of(*STATION, keys_of(ends, **each)), 1, range(1, 7))
+                 for each in (keys, keys | found)))
+        for ends, keys, found in BEHIND)
+
+
 def random_drawing(draw):
     """A drawing of tracks side by side with turnouts between them, and the names of its buttons. Some of the turnouts
     have one motor."""
     count, width = draw.randint(2, 4), draw.randint(2, 5)
-    cells = [list("= "[row % 2] * (width * 10 + 6)) for row in range(2 * count - 1)]
-    kinds = {"button": {}, "turnout": {}, "sensor": {}}
+    cells = [list("= "[row % 2] * (width * 10 + 16)) for row in range(2 * count - 1)]
+    kinds = {"button": {}, "turnout": {}, "sensor": {}, "signal": {}}
 
     def put(row, column, name):
         cells[row][column:column + len(name)] = name
 
     for track in range(count):
-        for side, column in (("L", 0), ("R", width * 10 + 4)):
-            kinds["button"][f"{side}{track}"] = "an end"
+        for kind, side, column in (("button", "L", 0), ("signal", "s", 3), ("button", "R", width * 10 + 14)):
+            kinds[kind][f"{side}{track}"] = [2, track + 1, 2, 0] if kind == "signal" else "an end"
             put(2 * track, column, f"{side}{track}")
+        for name, sensor, column in ((f"e{track}", 5, width * 10 + 7), (f"f{track}", 6, width * 10 + 10)):
+            if draw.random() < 0.6:
+                kinds["sensor"][name] = [1, sensor]
+                put(2 * track, column, name)
     for place in range(width):
-        track, rises, column = draw.randrange(count - 1), draw.random() < 0.5, 6 + 10 * place
+        track, rises, column = draw.randrange(count - 1), draw.random() < 0.5, 8 + 10 * place
         upper, lower = (column + 1, column - 2) if rises else (column - 2, column + 1)
         put(2 * track + 1, column, "/" if rises else "\\")
         for row, at, name in ((2 * track, upper, f"t{place}"), (2 * track + 2, lower, f"u{place}")):
             put(row, at, name)
             address = place + 1 if draw.random() < 0.3 else len(kinds["turnout"]) + 10
             kinds["turnout"][name] = [1, address, draw.randint(0, 1)]
-        if draw.random() < 0.3:
-            name = f"m{place}"
-            kinds["button" if draw.random() < 0.5 else "sensor"][name] = [1, place + 1]
+        if draw.random() < 0.9:
+            name, on = f"m{place}", draw.choice((1, 1, 1, 3))
+            kinds["button" if draw.random() < 0.1 else "sensor"][name] = [on, place + 1]
             put(draw.randrange(count) * 2, column + 4, name)
     kinds["button"] = {name: "a button" for name in kinds["button"]}
     return ("\n".join("".join(row) for row in cells) + "\n", legend_of(**kinds)), [*kinds["button"]]
 
 
 def routes_of_random_drawings(program):
-    """The program finds the turnouts that the page finds, or tells the same fault."""
-    draw, met = random.Random(80), {"no track leads": 0, "several tracks lead": 0, "found": 0}
+    """The program finds the turnouts and the sensors that the page finds, or tells the same fault."""
+    draw, met = random.Random(80), {"no track leads": 0, "several tracks lead": 0, "found": 0, "sections": 0}
     for _ in range(RANDOM):
         drawing, buttons = random_drawing(draw)
-        ends = " ".join(draw.sample(buttons, 2))
-        plan = plan_of(*drawing, keys_of(ends) + "\nname = ''")
+        begin = draw.choice([button for button in buttons if button[0] == "L" or draw.random() < 0.2])
+        ends = f"{begin} {draw.choice([button for button in buttons if button != begin])}"
+        signal = int(begin[-1]) + 1 if draw.random() < 0.8 else draw.randint(1, 3)
+        keys = {"name": "", **({"signal": [2, signal, 2, 0]} if draw.random() < 0.8 else {})}
+        plan = plan_of(*drawing, keys_of(ends, **keys))
         try:
             [route] = page.plan_of(plan.decode()).routes
         except ValueError as refused:
@@ -248,14 +285,15 @@ def routes_of_random_drawings(program):
             got = check_document(program, plan, ("check", "--plan"))
             want = fault_told(f"plan: route 1: {fault} to its end")
         else:
-            fault = "found"
-            got = course(program, plan, 1)
-            want = course(program, plan_of(*drawing, keys_of(ends, route["turnouts"])), 1)
+            fault = "sections" if route["sections"] else "found"
+            got = course(program, plan, 1, range(1, 7))
+            keys |= {key: route[key] for key in ("turnouts", "blocks", "sections")}
+            want = course(program, plan_of(*drawing, keys_of(ends, **keys)), 1, range(1, 7))
         met[fault] = met.get(fault, 0) + 1
         if got != want:
             return f"{plan.decode()}: {got}, want {want}"
-    return None if min(met.values()) > RANDOM / 20 and len(met) == 3 else f"drawings of {met}"
+    return None if min(met.values()) > RANDOM / 50 and len(met) == 4 else f"drawings of {met}"
 
 
 DRAWING_CASES = (routes_of_drawings, routes_that_a_drawing_does_not_have, routes_that_name_their_ends_alone,
-                 routes_of_random_drawings)
+                 sensors_behind_a_signal, routes_of_random_drawings)

@@ -15,7 +15,7 @@ KEYS = ("bus", "plan", "legend", "names", "functions", "route")
 
 class Plan(NamedTuple):
     """What the file has. `drawing` is what the page draws, or None if there is no plan in it. `routes` has the keys of
-    each route, with the turnouts that were found in the drawing."""
+    each route, with what was found in the drawing."""
     names: dict[str, str]
     functions: dict[str, list[str]]
     drawing: dict[str, Any] | None

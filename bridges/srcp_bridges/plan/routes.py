@@ -55,7 +55,7 @@ def check_route(index: int, given: dict[str, Any], own: object, lines: Lines) ->
 
 class Routes:
     """Reads the routes of a document whose drawing has these elements. Their words are those of routes. A route that
-    names its ends alone is given the turnouts that the drawing has between them."""
+    names its ends alone is given the turnouts that the drawing has between them, and the sensors behind its signal."""
 
     def __init__(self, document: dict[str, Any], lines: Lines, elements: Elements, ways: Ways):
         self.lines = lines
@@ -72,6 +72,8 @@ class Routes:
             self.check(index, given)
             if "turnouts" not in given:
                 given["turnouts"] = self.find(index, given)
+                for key, sensors in self.sensors(index, given).items():
+                    given.setdefault(key, sensors)
             for before in told:
                 if before["number"] == given["number"]:
                     raise self.wrong(index, "number", f"there is a route {given['number']} already")
@@ -109,8 +111,21 @@ class Routes:
                 raise self.wrong(index, "to", f"{leads} from {begin.text} to {end.text} past no button: name the "
                                  f"turnouts of route {given['number']}")
 
-    def way(self, index: int, given: dict[str, Any]) -> dict[str, Any]:
-        """Returns the tracks of a route, and what it shares with a route that crosses it or ends where it does."""
+    def sensors(self, index: int, given: dict[str, Any]) -> dict[str, list[list[int]]]:
+        """Returns the blocks and the sections of a route that names its ends alone: the sensors behind its signal."""
+        begin, end = (self.elements.named[given[key]].node for key in ("from", "to"))
+        left = leaves(self.ways, begin, self.tracks(index, given))
+        way = [self.elements.of(node) for node in [*left, end][1:]]
+        places = [place for place, each in enumerate(way)
+                  if each.kind == "signal" and each.given and each.given[:2] == given.get("signal", [])[:2]]
+        last = max((place for place, each in enumerate(way) if each.kind == "turnout"), default=-1)
+        sensors = {place: each.given for place, each in enumerate(way)
+                   if each.kind == "sensor" and each.given[0] != self.bus}
+        behind = [sensor for place, sensor in sensors.items() if places and place > places[0]]
+        return {"blocks": behind, "sections": behind if sum(place > last for place in sensors) > 1 else []}
+
+    def tracks(self, index: int, given: dict[str, Any]) -> list[int]:
+        """Returns the tracks of a route."""
         ports = {(bus, address): port for bus, address, port in given.get("turnouts", [])}
         begin, end = (self.elements.named[given[key]].node for key in ("from", "to"))
 
@@ -122,6 +137,12 @@ class Routes:
         if (tracks := way(self.ways, begin, end, turn)) is None:
             raise self.wrong(index, "turnouts", f"no track leads from {begin.text} to {end.text} over the turnouts of "
                              f"route {given['number']}")
+        return tracks
+
+    def way(self, index: int, given: dict[str, Any]) -> dict[str, Any]:
+        """Returns the tracks of a route, and what it shares with a route that crosses it or ends where it does."""
+        begin, end = (self.elements.named[given[key]].node for key in ("from", "to"))
+        tracks = self.tracks(index, given)
         left = leaves(self.ways, begin, tracks)
         if "signal" in given:
             self.passes(index, given, {node.text: side for node, side in left.items()})

@@ -219,6 +219,8 @@ module _ (joins : List Join) (kinds : List Kind) (goal : ℕ) (all : List Settin
   over way join kind.Track is alike e = goes way.turnouts way.came join alike (rw is e)
   over way join kind.Crossing is alike e = goes way.turnouts way.came join alike (rw is e)
   over way join kind.Button is alike e = absurd (cc)
+  over way join (kind.Signal device) is alike e = goes way.turnouts way.came join alike (rw is e)
+  over way join (kind.Sensor device) is alike e = goes way.turnouts way.came join alike (rw is e)
   over way join (kind.Turnout device branch) is alike e =
       over_turnout way.turnouts way.came join device branch (has_accessory way.turnouts device) refl is alike (rw is e)
   over way join kind.Beside is alike e = absurd (cc)

@@ -123,6 +123,8 @@ module _ (joins : List Join) (kinds : List Kind) (goal : ℕ) (whole : List Sett
   over most way kind.Track is there comes = stays most way there (λ more. rw is refl) comes
   over most way kind.Crossing is there comes = stays most way there (λ more. rw is refl) comes
   over most way kind.Button is there comes = All-nil (Comes most)
+  over most way (kind.Signal device) is there comes = stays most way there (λ more. rw is refl) comes
+  over most way (kind.Sensor device) is there comes = stays most way there (λ more. rw is refl) comes
   over most way (kind.Turnout device branch) is there comes =
       over_turnout most way device branch (has_accessory way.turnouts device) refl is there comes
   over most way kind.Beside is there comes = stays most way there (λ more. rw is refl) comes

@@ -1,10 +1,11 @@
 -- What is read of a plan keeps to what every plan keeps to.
 use Rattle.std.proofs.Common.{◌≡◌, ◌≢◌, ℕ, ◌≤◌, Bool, true, false, not, ◌&&◌, ◌||◌, List, [], ◌∷◌, ◌++◌, Option, Some, None, Ok, Err}
 use Rattle.std.proofs.Common.{length, refl, arith}
-use Rattle.std.specs.Prelude.{◌==◌, if◌then◌else◌, IfOk, IfSome, pos, negsuc}
+use Rattle.std.specs.Prelude.{◌==◌, if◌then◌else◌, is_some, nat_lt, IfOk, IfSome, pos, negsuc}
 use Rattle.std.specs.Option.{option_map_or}
 use Rattle.std.specs.List.{All, AllPairs, list_any}
-use Rattle.std.proofs.lemmas.List.Elements.{All-nil, All-cons, All-push}
+use Rattle.std.proofs.lemmas.List.Elements.{All-nil, All-cons, All-append, All-push}
+use Rattle.std.proofs.lemmas.List.Concat.{flat_map-cons}
 use Rattle.std.proofs.lemmas.List.Quantifiers.{all_pairs_push}
 use Rattle.toml.specs.Data.{Data, string, integer, float, boolean, datetime, array, table, Members}
 use Rattle.srcp_grammar.specs.Layout.{is_within}
@@ -15,14 +16,19 @@ use Rattle.srcp_routes.specs.Conflicts.{has_accessory, is_same}
 use Rattle.srcp_routes.specs.declared.route.Device.{Device}
 use Rattle.srcp_routes.specs.declared.route.Setting.{Setting}
 use Rattle.srcp_routes.specs.declared.route.Signal.{Signal}
-use Rattle.srcp_plan_file.specs.Devices.{OrFault, is_turnout, other_bus, device_of, turnout_of, sensor_of, signal_with, signal_of}
+use Rattle.srcp_plan_file.specs.Devices.{OrFault, is_sensor, is_turnout, other_bus, device_of, turnout_of, sensor_of}
+use Rattle.srcp_plan_file.specs.Devices.{signal_with, signal_of}
 use Rattle.srcp_plan_file.specs.Document.{delay_at, drawn_in, new_turnout, pieces_at, turnout_in, turnouts_in, array_if}
 use Rattle.srcp_plan_file.specs.Document.{sensor_in, sensors_in, sensors_at, new_signal, signal_at, frees_at, route_numbered}
-use Rattle.srcp_plan_file.specs.Document.{drawn_turnout, drawn_turnouts, found_turnouts, only_way, text_at, turnouts_at}
+use Rattle.srcp_plan_file.specs.Document.{drawn_turnout, drawn_turnouts, found_turnouts, given_or_found, only_way, text_at, turnouts_at}
 use Rattle.srcp_plan_file.specs.Document.{turnouts_between, turnouts_or_found, ways_named}
 use Rattle.srcp_plan_file.specs.Document.{is_numbered, new_number, apart_from, apart_from_all, route_of, route_in, routes_in}
 use Rattle.srcp_plan_file.specs.Document.{plan_in, plan_of}
+use Rattle.srcp_plan_file.specs.Behind.{behind, found_blocks, found_sections, past_turnouts, sensor_here, sensors_on}
 use Rattle.srcp_plan_file.specs.Faults.{plan_key}
+use Rattle.srcp_plan_file.specs.Ways.{kind_at}
+use Rattle.srcp_plan_file.specs.declared.element.Kind.{Kind}
+use Rattle.srcp_plan_file.specs.declared.element.Kind.TheVariants as kind
 use Rattle.srcp_plan_file.specs.Keys.{only_known, plan_keys, route_keys}
 use Rattle.srcp_plan_file.specs.Plan.{Drawn, PlannedRoute, IsBeside, IsAccessory, IsSensor, IsTurnout, IsSignal, AreOther, IsRoute}
 use Rattle.srcp_plan_file.specs.Plan.{AreApart, IsPlan, default_delay, last_port, longest_delay, mixes, crosses}
@@ -129,11 +135,22 @@ is_within_own own turnout e =
       port = (is_from 0 last_port turnout.port c.1).1;
     }
 
-is_sensor : (own : ℕ) (b : PlanFault) (values : List Data) → IfOk (sensor_of own b values) (IsSensor own)
-is_sensor own b [] = tt
-is_sensor own b (bus ∷ []) = tt
-is_sensor own b (bus ∷ address ∷ []) = is_device own greatest_fb b bus address
-is_sensor own b (bus ∷ address ∷ more ∷ others) = tt
+is_beside_own : (own : ℕ) (sensor : Device) → is_sensor own sensor ≡ true → IsSensor own sensor
+is_beside_own own sensor e =
+    let a : (not (sensor.bus == own) ≡ true)
+    × ((is_within 1 greatest_bus sensor.bus && is_within 1 greatest_fb sensor.address) ≡ true) = both _ _ e in
+    let b : (is_within 1 greatest_bus sensor.bus ≡ true) × (is_within 1 greatest_fb sensor.address ≡ true) = both _ _ a.1 in
+    record {
+      bus = is_from 1 greatest_bus sensor.bus b.0;
+      other = is_other own sensor.bus a.0;
+      address = is_from 1 greatest_fb sensor.address b.1;
+    }
+
+sensor_holds : (own : ℕ) (b : PlanFault) (values : List Data) → IfOk (sensor_of own b values) (IsSensor own)
+sensor_holds own b [] = tt
+sensor_holds own b (bus ∷ []) = tt
+sensor_holds own b (bus ∷ address ∷ []) = is_device own greatest_fb b bus address
+sensor_holds own b (bus ∷ address ∷ more ∷ others) = tt
 
 signal_if : (own : ℕ) (b : PlanFault) (device : Device) (go stop : ℕ) (w : Bool) → (go == stop) ≡ w → IsAccessory own device
     → IsFrom 0 last_port go → IsFrom 0 last_port stop → IfOk (signal_with b device go stop) (IsSignal own)
@@ -244,7 +261,7 @@ module _ (own number : ℕ) where
   is_sensor_in : (f : Field) (value : Data) → IfOk (sensor_in own number f value) (IsSensor own)
   is_sensor_in f value =
       after (λ v. Unit) (IsSensor own) (array_in (fault.Beyond number f) value) _ (any _)
-      (λ values h. is_sensor own (fault.Beyond number f) values)
+      (λ values h. sensor_holds own (fault.Beyond number f) values)
 
   are_sensors : (f : Field) (before : List Device) (values : List Data) → All (IsSensor own) before
       → IfOk (sensors_in own number f before values) (All (IsSensor own))
@@ -288,6 +305,45 @@ module _ (own number : ℕ) where
   delay_holds members = given (IsFrom 1 longest_delay) default_delay _ (value_at (plan_key field.Delay) members)
       (omega arith, omega arith) (λ d. is_ranged 1 longest_delay (fault.Beyond number field.Delay) d)
 
+  here_if : (device : Device) (w : Bool) → is_sensor own device ≡ w → All (IsSensor own) (if w then device ∷ [] else [])
+  here_if device true e = All-cons (IsSensor own) device [] (is_beside_own own device e) (All-nil (IsSensor own))
+  here_if device false e = All-nil (IsSensor own)
+
+  here_hold : (k : Kind) → All (IsSensor own) (sensor_here own k)
+  here_hold kind.Track = All-nil (IsSensor own)
+  here_hold kind.Crossing = All-nil (IsSensor own)
+  here_hold kind.Button = All-nil (IsSensor own)
+  here_hold (kind.Signal device) = All-nil (IsSensor own)
+  here_hold (kind.Sensor device) = here_if device (is_sensor own device) refl
+  here_hold (kind.Turnout device branch) = All-nil (IsSensor own)
+  here_hold kind.Beside = All-nil (IsSensor own)
+
+  -- the sensors of a way
+  on_hold : (kinds : List Kind) (pieces : List ℕ) → All (IsSensor own) (sensors_on own kinds pieces)
+  on_hold kinds [] = All-nil (IsSensor own)
+  on_hold kinds (n ∷ pieces) = rw (flat_map-cons (λ (n : ℕ). sensor_here own (kind_at kinds n)) n pieces)
+      (All-append (IsSensor own) (sensor_here own (kind_at kinds n)) (sensors_on own kinds pieces) (here_hold (kind_at kinds n))
+      (on_hold kinds pieces))
+
+  blocks_hold : (kinds : List Kind) (signal : Option Signal) (pieces : List ℕ) → All (IsSensor own) (found_blocks own kinds signal pieces)
+  blocks_hold kinds None pieces = All-nil (IsSensor own)
+  blocks_hold kinds (Some signal) pieces = on_hold kinds (behind kinds signal.device pieces)
+
+  either_hold : (w : Bool) (xs ys : List Device) → All (IsSensor own) xs → All (IsSensor own) ys
+      → All (IsSensor own) (if w then xs else ys)
+  either_hold true xs ys h k = h
+  either_hold false xs ys h k = k
+
+  sections_hold : (kinds : List Kind) (signal : Option Signal) (pieces : List ℕ)
+      → All (IsSensor own) (found_sections own kinds signal pieces)
+  sections_hold kinds signal pieces = either_hold (nat_lt (length (sensors_on own kinds (past_turnouts kinds pieces))) 2) []
+      (found_blocks own kinds signal pieces) (All-nil (IsSensor own)) (blocks_hold kinds signal pieces)
+
+  found_hold : (f : Field) (members : Members) (xs ys : List Device) → All (IsSensor own) xs → All (IsSensor own) ys
+      → All (IsSensor own) (given_or_found f members xs ys)
+  found_hold f members xs ys h k =
+      either_hold (is_some (value_at (plan_key field.Turnouts) members) || is_some (value_at (plan_key f) members)) xs ys h k
+
   -- a route within the limits of this number
   abbrev IsNumbered : PlannedRoute → Type 0
   IsNumbered route = IsRoute own route × (route.number ≡ number)
@@ -311,10 +367,12 @@ module _ (own number : ℕ) where
         record {
           number = n;
           turnouts = t.0;
-          blocks = b;
+          blocks = found_hold field.Blocks members blocks (found_blocks own drawn.kinds signal pieces) b
+              (blocks_hold drawn.kinds signal pieces);
           signal = s.0;
           frees = f;
-          sections = c;
+          sections = found_hold field.Sections members sections (found_sections own drawn.kinds signal pieces) c
+              (sections_hold drawn.kinds signal pieces);
           approach = a;
           delay = l;
           turnouts_once = t.1;

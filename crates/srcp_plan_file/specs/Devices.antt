@@ -40,6 +40,11 @@ is_turnout own turnout = not (turnout.device.bus == own)
     && (is_within 1 greatest_bus turnout.device.bus
     && (is_within 1 greatest_ga turnout.device.address && is_within 0 last_port turnout.port))
 
+-- the same of a sensor
+abbrev pub is_sensor : (own : ℕ) → Device → Bool
+is_sensor own sensor = not (sensor.bus == own)
+    && (is_within 1 greatest_bus sensor.bus && is_within 1 greatest_fb sensor.address)
+
 -- a sensor of its bus and its address
 abbrev pub sensor_of : (own : ℕ) → PlanFault → List Data → OrFault Device
 sensor_of own beyond (bus ∷ address ∷ []) = device_of own greatest_fb beyond bus address

@@ -1,5 +1,6 @@
 -- What a plan says: from the bytes of a TOML document to the routes, or to the first fault.
-use Rattle.std.specs.Prelude.{ℕ, Bool, ◌==◌, if◌then◌else◌, List, [], ◌∷◌, ◌++◌, Option, Some, None, Ok, Err}
+use Rattle.std.specs.Prelude.{ℕ, Bool, ◌==◌, ◌||◌, if◌then◌else◌, List, [], ◌∷◌, ◌++◌, Option, Some, None, Ok, Err}
+use Rattle.std.specs.Prelude.{is_some}
 use Rattle.std.specs.Prelude.{length, map, nat_eq, ok_or, option_and_then, option_map, unwrap_or}
 use Rattle.std.specs.List.{list_any, position}
 use Rattle.std.specs.Cmp.Lexicographic.{pointwise}
@@ -11,6 +12,7 @@ use Rattle.srcp_routes.specs.Conflicts.{has_accessory}
 use Rattle.srcp_routes.specs.declared.route.Device.{Device}
 use Rattle.srcp_routes.specs.declared.route.Setting.{Setting}
 use Rattle.srcp_routes.specs.declared.route.Signal.{Signal}
+use Rattle.srcp_plan_file.specs.Behind.{found_blocks, found_sections}
 use Rattle.srcp_plan_file.specs.Faults.{plan_key}
 use Rattle.srcp_plan_file.specs.Devices.{OrFault, is_turnout, sensor_of, signal_of, turnout_of}
 use Rattle.srcp_plan_file.specs.Drawing.{drawing, name_of}
@@ -95,6 +97,12 @@ new_signal number turnouts signal =
 -- the values of an array at a key of the route, none if it is not given
 abbrev pub array_if : (number : ℕ) → Field → Members → OrFault (List Data)
 array_if number of members = if_given [] (array_in (fault.Beyond number of)) (value_at (plan_key of) members)
+
+-- the sensors that are given at a key of the route, or those that are found, if the route names its ends alone
+abbrev pub given_or_found : Field → Members → (given found : List Device) → List Device
+given_or_found of members given found =
+    if is_some (value_at (plan_key field.Turnouts) members) || is_some (value_at (plan_key of) members) then given
+    else found
 
 -- for how many seconds a route keeps its locks
 abbrev pub delay_at : (number : ℕ) → Members → OrFault ℕ
@@ -192,10 +200,10 @@ module _ (own number : ℕ) where
     Ok (record {
       number = number;
       turnouts = turnouts;
-      blocks = blocks;
+      blocks = given_or_found field.Blocks members blocks (found_blocks own drawn.kinds signal pieces);
       signal = signal;
       frees = frees;
-      sections = sections;
+      sections = given_or_found field.Sections members sections (found_sections own drawn.kinds signal pieces);
       approach = approach;
       delay = delay;
       pieces = pieces;

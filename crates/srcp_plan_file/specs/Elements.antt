@@ -1,12 +1,14 @@
 -- What each piece of a drawing is: by its shape, and by what the legend says of its name.
-use Rattle.std.specs.Prelude.{ℕ, Bool, ◌||◌, List, Option, Some, None, Ok, Err, if◌then◌else◌, is_some, option_and_then}
+use Rattle.std.specs.Prelude.{ℕ, List, Option, Some, None, Ok, Err, if◌then◌else◌, is_some, option_and_then}
 use Rattle.std.specs.Option.{option_map_or}
 use Rattle.std.specs.Str.{is_utf8}
 use Rattle.toml.specs.Data.{Data, table, Members, get_member}
 use Rattle.srcp_layout_file.specs.Gives.{◌>>=◌}
 use Rattle.srcp_layout_file.specs.Member.{array_in, value_at}
+use Rattle.srcp_routes.specs.declared.route.Device.{Device}
 use Rattle.srcp_routes.specs.declared.route.Setting.{Setting}
-use Rattle.srcp_plan_file.specs.Devices.{OrFault, turnout_of}
+use Rattle.srcp_routes.specs.declared.route.Signal.{Signal}
+use Rattle.srcp_plan_file.specs.Devices.{OrFault, sensor_of, signal_of, turnout_of}
 use Rattle.srcp_plan_file.specs.Drawing.{name_of}
 use Rattle.srcp_plan_file.specs.Faults.{plan_key}
 use Rattle.srcp_plan_file.specs.declared.drawing.Piece.{Piece}
@@ -27,16 +29,34 @@ abbrev pub turnout_kind : Data → Kind
 turnout_kind value = turnout_read
     (array_in (fault.OutOfRange field.Turnout) value >>= turnout_of 0 (fault.OutOfRange field.Turnout))
 
--- an entry of the legend is a signal or a sensor
-abbrev pub is_passed : Members → Bool
-is_passed entry =
-    is_some (value_at (plan_key field.Signal) entry) || is_some (value_at (plan_key field.Sensor) entry)
+-- the same of a signal, which a train passes in any case
+abbrev pub signal_read : OrFault Signal → Kind
+signal_read (Ok signal) = kind.Signal signal.device
+signal_read (Err e) = kind.Track
+
+abbrev pub signal_kind : Data → Kind
+signal_kind value =
+    signal_read (array_in (fault.OutOfRange field.Signal) value >>= signal_of 0 (fault.OutOfRange field.Signal))
+
+-- the same of a sensor
+abbrev pub sensor_read : OrFault Device → Kind
+sensor_read (Ok device) = kind.Sensor device
+sensor_read (Err e) = kind.Track
+
+abbrev pub sensor_kind : Data → Kind
+sensor_kind value =
+    sensor_read (array_in (fault.OutOfRange field.Sensor) value >>= sensor_of 0 (fault.OutOfRange field.Sensor))
+
+-- the kind of an entry of the legend that is no turnout
+abbrev pub passed_kind : Members → Kind
+passed_kind entry = option_map_or signal_kind (value_at (plan_key field.Signal) entry)
+    (option_map_or sensor_kind (value_at (plan_key field.Sensor) entry)
+    (if is_some (value_at (plan_key field.Button) entry) then kind.Button else kind.Beside))
 
 -- the kind of an entry of the legend
 abbrev pub table_kind : Members → Kind
 table_kind entry = option_map_or turnout_kind (value_at (plan_key field.Turnout) entry)
-    (if is_passed entry then kind.Track
-    else (if is_some (value_at (plan_key field.Button) entry) then kind.Button else kind.Beside))
+    (passed_kind entry)
 
 -- the kind of what stands at a name in the legend
 abbrev pub entry_kind : Data → Kind

@@ -1,3 +1,4 @@
+pub mod Behind
 pub mod Devices
 pub mod Document
 pub mod Drawing

@@ -65,6 +65,8 @@ leads joins false came goes = (goes.from == came.to) && is_straight joins came g
 abbrev pub next_at : List Join → List Setting → Join → Kind → Option Join
 next_at joins turnouts came kind.Track = only_join joins came.to
 next_at joins turnouts came kind.Button = only_join joins came.to
+next_at joins turnouts came (kind.Signal device) = only_join joins came.to
+next_at joins turnouts came (kind.Sensor device) = only_join joins came.to
 next_at joins turnouts came kind.Crossing = find (goes_straight came) joins
 next_at joins turnouts came (kind.Turnout device branch) =
     option_and_then (λ to_branch. find (leads joins to_branch came) joins) (branches turnouts device branch)

@@ -3,7 +3,7 @@
 ghost use Rattle.std.specs.Prelude.{◌≡◌, map};
 ghost use Rattle.toml.specs.View.{view as data_of};
 ghost use Rattle.srcp_plan_file.specs.Devices.{device_of, other_bus, sensor_of, signal_of, signal_with, turnout_of};
-ghost use Rattle.srcp_plan_file.specs.Devices.{is_turnout};
+ghost use Rattle.srcp_plan_file.specs.Devices.{is_sensor, is_turnout};
 
 use crate::plan::PlanFault;
 use srcp_info::{GREATEST_BUS, GREATEST_FB, GREATEST_GA, MOST_PORTS};
@@ -60,6 +60,15 @@ pub(crate) fn is_turnout(own: u8, turnout: Setting) -> bool
         && (1 <= device.bus && device.bus <= GREATEST_BUS)
         && (1 <= device.address && device.address <= GREATEST_GA)
         && u32::from(turnout.port) <= LAST_PORT
+}
+
+/// Returns whether a sensor is within the limits, and on another bus than the routes' own.
+pub(crate) fn is_sensor(own: u8, sensor: Device) -> bool
+    ensures { result ≡ is_sensor own sensor }
+{
+    sensor.bus != own
+        && (1 <= sensor.bus && sensor.bus <= GREATEST_BUS)
+        && (1 <= sensor.address && sensor.address <= GREATEST_FB)
 }
 
 /// Reads a sensor from its bus and its address.

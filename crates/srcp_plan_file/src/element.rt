@@ -3,10 +3,10 @@
 ghost use Rattle.std.specs.Prelude.{◌≡◌, IfOk, map, option_map};
 ghost use Rattle.toml.specs.Data.{get_member};
 ghost use Rattle.toml.specs.View.{table_view, view as data_of};
-ghost use Rattle.srcp_plan_file.specs.Elements.{entry_kind, is_passed, kind_of, named_kind, table_kind, text_of};
-ghost use Rattle.srcp_plan_file.specs.Elements.{turnout_kind};
+ghost use Rattle.srcp_plan_file.specs.Elements.{entry_kind, kind_of, named_kind, passed_kind, table_kind, text_of};
+ghost use Rattle.srcp_plan_file.specs.Elements.{sensor_kind, signal_kind, turnout_kind};
 
-use crate::device::turnout_of;
+use crate::device::{sensor_of, signal_of, turnout_of};
 use crate::drawing::{Piece, Shape, name_of};
 use crate::plan::{Field, PlanFault};
 use srcp_layout_file::member::{array_in, value_at};
@@ -24,6 +24,10 @@ pub(crate) enum Kind {
     Crossing,
     /// The train goes on as the track does, and a route may begin or end here.
     Button,
+    /// The train goes on as the track does, past this signal.
+    Signal(Device),
+    /// The train goes on as the track does, over this sensor.
+    Sensor(Device),
     /// The train goes on as this turnout is put. The port is that of the branch.
     Turnout(Device, u8),
     /// No train passes: what stands beside the tracks, or what the legend does not name.
@@ -44,11 +48,46 @@ fn turnout_kind(value: &Value) -> Kind
     }
 }
 
-/// Returns whether an entry of the legend is a signal or a sensor.
-fn is_passed(entry: &Table) -> bool
-    ensures { result ≡ is_passed (table_view entry.now) }
+/// Returns the kind of a signal.
+fn signal_kind(value: &Value) -> Kind
+    ensures { result ≡ signal_kind (data_of value.now) }
 {
-    value_at(entry, Field::Signal).is_some() || value_at(entry, Field::Sensor).is_some()
+    let beyond = PlanFault::OutOfRange(Field::Signal);
+    let Ok(values) = array_in(value, beyond) else {
+        return Kind::Track;
+    };
+    match signal_of(0, values, beyond) {
+        Ok(signal) => Kind::Signal(signal.device),
+        Err(_) => Kind::Track,
+    }
+}
+
+/// Returns the kind of a sensor.
+fn sensor_kind(value: &Value) -> Kind
+    ensures { result ≡ sensor_kind (data_of value.now) }
+{
+    let beyond = PlanFault::OutOfRange(Field::Sensor);
+    let Ok(values) = array_in(value, beyond) else {
+        return Kind::Track;
+    };
+    match sensor_of(0, values, beyond) {
+        Ok(device) => Kind::Sensor(device),
+        Err(_) => Kind::Track,
+    }
+}
+
+/// Returns the kind of an entry of the legend that is no turnout.
+fn passed_kind(entry: &Table) -> Kind
+    ensures { result ≡ passed_kind (table_view entry.now) }
+{
+    if let Some(value) = value_at(entry, Field::Signal) {
+        return signal_kind(value);
+    }
+    match value_at(entry, Field::Sensor) {
+        Some(value) => sensor_kind(value),
+        None if value_at(entry, Field::Button).is_some() => Kind::Button,
+        None => Kind::Beside,
+    }
 }
 
 /// Returns the kind of an entry of the legend.
@@ -57,9 +96,7 @@ fn table_kind(entry: &Table) -> Kind
 {
     match value_at(entry, Field::Turnout) {
         Some(value) => turnout_kind(value),
-        None if is_passed(entry) => Kind::Track,
-        None if value_at(entry, Field::Button).is_some() => Kind::Button,
-        None => Kind::Beside,
+        None => passed_kind(entry),
     }
 }
 

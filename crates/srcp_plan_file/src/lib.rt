@@ -5,6 +5,7 @@
 //! none of the program's words.
 #![tactic(auto)]
 
+mod behind;
 mod device;
 mod document;
 mod drawing;

@@ -142,7 +142,7 @@ pub(crate) fn next(joins: &[Join], kinds: &[Kind], turnouts: &[Setting], came: J
     ensures { result ≡ next joins.now kinds.now turnouts.now came }
 {
     match kind_at(kinds, came.to) {
-        Kind::Track | Kind::Button => only_join(joins, came.to),
+        Kind::Track | Kind::Button | Kind::Signal(_) | Kind::Sensor(_) => only_join(joins, came.to),
         Kind::Crossing => straight_join(joins, came),
         Kind::Turnout(device, branch) => {
             let to_branch = branches(turnouts, device, branch)?;

@@ -5,11 +5,13 @@ ghost use Rattle.toml.specs.View.{table_view, view as data_of};
 ghost use Rattle.srcp_layout_file.specs.Gives.{Gives, Shows};
 ghost use Rattle.srcp_plan_file.specs.Document.{array_if, delay_at, frees_at, new_signal, new_turnout, pieces_at};
 ghost use Rattle.srcp_plan_file.specs.Document.{route_numbered, sensor_in, sensors_at, sensors_in, signal_at};
-ghost use Rattle.srcp_plan_file.specs.Document.{drawn_turnout, drawn_turnouts, found_turnouts, only_way};
+ghost use Rattle.srcp_plan_file.specs.Document.{drawn_turnout, drawn_turnouts, found_turnouts};
+ghost use Rattle.srcp_plan_file.specs.Document.{given_or_found, only_way};
 ghost use Rattle.srcp_plan_file.specs.Document.{signal_in, turnout_in, turnouts_at, turnouts_in};
 ghost use Rattle.srcp_plan_file.specs.Plan.{drawn, planned_route};
 ghost use Rattle.srcp_plan_file.specs.Searches.{walked};
 
+use crate::behind::{found_blocks, found_sections};
 use crate::device::{is_turnout, sensor_of, signal_of, turnout_of};
 use crate::plan::{Field, PlanFault};
 use crate::search::Walk;
@@ -45,6 +47,10 @@ pub(super) fn route_numbered(
     let approach = sensors_at(alloc, own, number, Field::Approach, members)?;
     let delay = delay_at(number, members)?;
     let pieces = pieces_at(alloc, number, tracks, &turnouts, members)?;
+    let found = found_blocks(alloc, own, &tracks.kinds, signal, &pieces)?;
+    let blocks = given_or_found(members, Field::Blocks, blocks, found);
+    let found = found_sections(alloc, own, &tracks.kinds, signal, &pieces)?;
+    let sections = given_or_found(members, Field::Sections, sections, found);
     Ok(Route {
         number,
         turnouts,
@@ -233,6 +239,22 @@ fn sensors_in(
         sensors.push(sensor)?;
     }
     Ok(sensors)
+}
+
+/// Returns the sensors that are given at a key of a route, or those that are found, if the route names its ends alone.
+fn given_or_found(
+    members: &Table,
+    field: Field,
+    given: Vec<Device>,
+    found: Vec<Device>,
+) -> Vec<Device>
+    ensures { result.items ≡ given_or_found field (table_view members.now) given.items found.items }
+{
+    if value_at(members, Field::Turnouts).is_some() || value_at(members, field).is_some() {
+        given
+    } else {
+        found
+    }
 }
 
 /// Reads the signal of a route, if there is one.
