@@ -3,6 +3,7 @@ turnouts are found for a route that names its ends alone."""
 import random
 import sys
 from pathlib import Path
+from typing import Any
 
 from inputs import check_document
 from tables import fault_told, first_difference
@@ -157,7 +158,8 @@ ENDS: tuple[tuple[tuple[str, str], dict[str, list[list[int]]]], ...] = (
 # What is found of routes of the station that name their ends and their signal alone, and what if the blocks are written
 # out too: a route of which one sensor lies behind all turnouts has no sections.
 BOTH, LAST = [[1, 5], [1, 2]], [[1, 4]]
-BEHIND = (
+Keys = dict[str, list[Any]]
+BEHIND: tuple[tuple[str, Keys, Keys], ...] = (
     ("W Pö", {"signal": [1, 11, 1, 0]}, {"turnouts": [[1, 1, 0]], "blocks": BOTH, "sections": BOTH}),
     ("W Pö", {"signal": [1, 11, 1, 0], "blocks": LAST}, {"turnouts": [[1, 1, 0]], "blocks": LAST, "sections": BOTH}),
     ("W Pö", {"signal": [1, 11, 1, 0], "sections": []}, {"turnouts": [[1, 1, 0]], "blocks": BOTH, "sections": []}),

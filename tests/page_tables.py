@@ -52,6 +52,7 @@ NO_LIMITS = (
     ("srcp_interlock/specs/Hearing.antt", {2, 52, 53}, "port, and the bytes of digits"),
     ("srcp_peers/specs/Peers.antt", {2}, "calls"),
     ("srcp_plan_file/specs/Drawing.antt", {128, 192}, "first bytes of a character"),
+    ("srcp_plan_file/src/behind.rt", {2}, "sections without which no train is followed"),
     ("srcp_plan_file/src/drawing.rt", {128, 192}, "first bytes of a character"),
     ("srcp_peers/src/lingering.rt", {2}, "calls"),
     ("srcp_rules/specs/Effect.antt", {3, 1000}, "place of a letter, and milliseconds of a second"),
