@@ -1,15 +1,10 @@
 """Plans with a drawing: over which elements each route leads, which routes have a piece of track in common, and which
 turnouts are found for a route that names its ends alone."""
 import random
-import sys
-from pathlib import Path
 from typing import Any
 
 from inputs import check_document
 from tables import fault_told, first_difference
-
-sys.path.insert(0, str(Path(__file__).resolve().parent.parent / "bridges"))
-from srcp_bridges.plan import plan as page  # noqa: E402
 
 
 def plan_of(drawing, legend, *routes):
@@ -272,6 +267,7 @@ def random_drawing(draw):
 
 def routes_of_random_drawings(program):
     """The program finds the turnouts and the sensors that the page finds, or tells the same fault."""
+    from srcp_bridges.plan import plan as page  # by then bridge_tests has said which programs these are
     draw, met = random.Random(80), {"no track leads": 0, "several tracks lead": 0, "found": 0, "sections": 0}
     for _ in range(RANDOM):
         drawing, buttons = random_drawing(draw)
